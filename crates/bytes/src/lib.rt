@@ -1,0 +1,17 @@
+// Numbers in bytes, highest byte first: the layout of every number of several bytes in an archive.
+ghost use mathlib.Core.Path.{_≡_};
+ghost use Rattle.bytes.specs.Numbers.{spelled, in-64-bits};
+
+// The number that bytes spell, or nothing where it passes 64 bits.
+pub fn number_of(bytes: &[u8]) -> Option<u64>
+    ensures { λ r. ⌜ r ≡ in-64-bits (spelled (now (bytes .entry))) ⌝ }
+{
+    let mut number: u64 = 0;
+    for b in bytes {
+        if number >= 1 << 56 {
+            return None;
+        }
+        number = number * 256 + u64::from(*b);
+    }
+    Some(number)
+}

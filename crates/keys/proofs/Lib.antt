@@ -1,0 +1,3 @@
+pub mod Codes
+pub mod Folds
+pub mod Sheets
