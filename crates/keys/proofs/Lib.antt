@@ -1,3 +1,4 @@
 pub mod Codes
+pub mod Digests
 pub mod Folds
 pub mod Sheets

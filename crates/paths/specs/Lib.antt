@@ -1,0 +1,4 @@
+pub mod Tries
+pub mod Making
+pub mod Rules
+pub mod RuleLaws

@@ -1,0 +1,5 @@
+pub mod Geometry
+pub mod Nodes
+pub mod Lists
+pub mod Cells
+pub mod Coefficients

@@ -1,0 +1,5 @@
+pub mod Settings
+pub mod Geometry
+pub mod Refusal
+pub mod Paths
+pub mod Laws
