@@ -1,1 +1,3 @@
+pub mod Descents
 pub mod Making
+pub mod Values

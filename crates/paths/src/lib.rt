@@ -4,3 +4,5 @@ pub mod descent;
 pub mod path;
 pub mod rule;
 pub mod make;
+mod value;
+pub mod rule_path;

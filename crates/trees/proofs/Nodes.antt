@@ -44,10 +44,15 @@ double : (w : ℕ) → 2 ^ (2 * w) ≡ 2 ^ w * 2 ^ w
 double w = let e : 2 * w ≡ w + w = omega arith in ap (λ n. 2 ^ n) e ∙ pow-add 2 w w
 
 -- What a trie's settings have: m = k = 2^w.
-pub trie-powers : (m k : ℕ) → scheme-takes Trie m k ≡ true → (m ≡ k) × (m ≡ 2 ^ log-two m)
+trie-powers : (m k : ℕ) → scheme-takes Trie m k ≡ true → (m ≡ k) × (m ≡ 2 ^ log-two m)
 trie-powers m k taken =
     let parts = and-parts _ _ taken in
     (eqb-true m k (parts .0), eqb-true m (2 ^ log-two m) (and-parts _ _ (parts .1) .0))
+
+pub trie-square : (m k : ℕ) → scheme-takes Trie m k ≡ true → 2 ^ (2 * log-two m) ≡ m * k
+trie-square m k taken =
+    let powers = trie-powers m k taken in
+    double (log-two m) ∙ ap (λ n. n * n) (sym (powers .1)) ∙ ap (λ n. m * n) (powers .0)
 
 -- The top w bits of a digest are below 2^w.
 top-bits : (w digest : ℕ) → w ≤ 32 → digest < 2 ^ 32 → bits-of w digest 0 < 2 ^ w
@@ -78,7 +83,7 @@ node-of-parts Trie m k levels tries coefficients hash some fork taken small i =
     let w = log-two m in
     let few : w ≤ 32 = trailing-le 32 m in
     let top : value-at s hash 0 < m = omega (arith, powers .1, top-bits w hash few small) in
-    let square : 2 ^ (2 * w) ≡ m * k = double w ∙ ap (λ n. n * n) (sym (powers .1)) ∙ ap (λ n. m * n) (powers .0) in
+    let square : 2 ^ (2 * w) ≡ m * k = trie-square m k taken in
     let deep : (n : ℕ) → value-at s hash (suc n) < m * k = λ n. omega (arith, square, mod-lt (hash / 2 ^ (32 - (w * n + 2 * w))) (pow-pos (2 * w))) in
     below-by-child k (node-above s hash) (child-at s hash) refl (λ n. refl) (only-child (value-at s hash 0) m some top)
     (λ n. child-of (value-at s hash (suc n)) m k some (deep n))
