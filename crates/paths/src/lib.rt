@@ -6,3 +6,4 @@ pub mod rule;
 pub mod make;
 mod value;
 pub mod rule_path;
+pub mod listing;
