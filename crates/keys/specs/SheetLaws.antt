@@ -36,4 +36,5 @@ sheet-laws =
     record {
       twelve = λ bs h. eqb-true _ _ (and-parts _ _ h .0);
       own = λ s. le-leb _ _ (let e = spelled-sheet (s .number) (s .small) in omega arith);
-      apart = λ a b e. same-number a b (sym (spelled-sheet (a .number) (a .small)) ∙ ap spelled e ∙ spelled-sheet (b .number) (b .small)) }
+      apart = λ a b e. same-number a b (sym (spelled-sheet (a .number) (a .small)) ∙ ap spelled e ∙ spelled-sheet (b .number) (b .small));
+    }

@@ -7,6 +7,9 @@ use crate::code::is_code;
 use crate::fault::KeyFault;
 use crate::kind::Key;
 
+// The kind's number.
+pub const CODE_KIND: u8 = 2;
+
 pub impl Key for DrawingCode as CodeKey {
     ghost mark = { 2 };
 
@@ -17,7 +20,7 @@ pub impl Key for DrawingCode as CodeKey {
     ghost laws = { code-laws };
 
     fn kind() -> u8 {
-        2
+        CODE_KIND
     }
 
     fn to_bytes(&self) -> [u8; 12] {

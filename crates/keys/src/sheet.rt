@@ -23,7 +23,9 @@ impl SheetNumber {
         if number > LARGEST_SHEET {
             return Err(KeyFault::Inadmissible);
         }
-        Ok(SheetNumber { number: number as u32 })
+        Ok(SheetNumber {
+            number: number as u32,
+        })
     }
 
     // Its number.

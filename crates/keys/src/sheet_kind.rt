@@ -2,10 +2,13 @@
 ghost use mathlib.Core.Path.{_≡_};
 ghost use Rattle.keys.specs.Sheets.{sheet-bytes, sheet-admissible};
 ghost use Rattle.keys.specs.SheetLaws.{sheet-laws};
-use bytes::number_of;
 use crate::fault::KeyFault;
 use crate::kind::Key;
 use crate::sheet::SheetNumber;
+use bytes::number_of;
+
+// The kind's number.
+pub const SHEET_KIND: u8 = 1;
 
 pub impl Key for SheetNumber as SheetKey {
     ghost mark = { 1 };
@@ -17,7 +20,7 @@ pub impl Key for SheetNumber as SheetKey {
     ghost laws = { sheet-laws };
 
     fn kind() -> u8 {
-        1
+        SHEET_KIND
     }
 
     fn to_bytes(&self) -> [u8; 12] {

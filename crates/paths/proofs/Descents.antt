@@ -75,8 +75,12 @@ module _ (r : Rule) (key : List ℕ) (i : ℕ) (at : Descent) (low : i < r .shap
         → _≡_ {A = Descent} (record { hash = at .hash; level = at .level + 1; first = next; span = wide; node = node }) (rule-stage r key (i + 1))
     stage-below next wide f w t =
         record {
-          hash = come t .hash; level = come t .level + 1; first = next-first next f t; span = next-span wide w t;
-          node = (here ∙ ap (node-above (settings-of r) (hash-of (r .shape .scheme) key)) (sym (add-one i))) t }
+          hash = come t .hash;
+          level = come t .level + 1;
+          first = next-first next f t;
+          span = next-span wide w t;
+          node = (here ∙ ap (node-above (settings-of r) (hash-of (r .shape .scheme) key)) (sym (add-one i))) t;
+        }
 
     -- The tries of the level.
     pub tries-there :

@@ -41,9 +41,10 @@ passed (Some level) h = absurd (let z : _≡_ {A = ℕ} 0 1 = cc in omega arith)
 
 pub fits-size : (n total : ℕ) → Ok total ≡ sized n → (total ≡ n) × (n ≤ largest-total)
 fits-size n total h =
-    elim (cases-bool (leb n largest-total))
-      [ inl small ↦ (let e = h ∙ cond-true _ _ _ small in (cc, leb-true n largest-total small))
-      | inr large ↦ absurd (let e = h ∙ cond-false _ (Ok n) (Err Size) large in let z : _≡_ {A = ℕ} 0 1 = cc in omega arith) ]
+    elim (cases-bool (leb n largest-total)) [
+      | inl small ↦ (let e = h ∙ cond-true _ _ _ small in (cc, leb-true n largest-total small))
+      | inr large ↦ absurd (let e = h ∙ cond-false _ (Ok n) (Err Size) large in let z : _≡_ {A = ℕ} 0 1 = cc in omega arith)
+    ]
 
 few : (scheme : Scheme) (levels : ℕ) → coefficients-of scheme levels ≤ levels
 few Thin levels = omega arith

@@ -37,4 +37,5 @@ rule-laws =
       inside = inside;
       once = λ r key. path-once (settings-of r) (hash-of (r .shape .scheme) key) (r .shape .node .0) (omega (arith, r .shape .fork .0)) (r .shape .taken) (hash-small (r .shape .scheme) key) (r .shape .width .0) (r .shape .width .1);
       same-total = λ p q e. p .whole ∙ ap total-of e ∙ sym (q .whole);
-      same-path = λ p q e key. ap (λ s. path-of s key) e }
+      same-path = λ p q e key. ap (λ s. path-of s key) e;
+    }

@@ -14,8 +14,13 @@ use Rattle.trees.specs.Refusal.{coefficients-of}
 abbrev pub settings-of : Rule → RuleSettings
 settings-of r =
     record {
-      scheme = r .shape .scheme; cells = r .shape .cells; children = r .shape .children; levels = r .shape .levels; tries = r .shape .tries;
-      coefficients = take (coefficients-of (r .shape .scheme) (r .shape .levels)) (r .coefficients) }
+      scheme = r .shape .scheme;
+      cells = r .shape .cells;
+      children = r .shape .children;
+      levels = r .shape .levels;
+      tries = r .shape .tries;
+      coefficients = take (coefficients-of (r .shape .scheme) (r .shape .levels)) (r .coefficients);
+    }
 
 abbrev pub rule-path : Rule → List ℕ → List ℕ
 rule-path r key = path-of (settings-of r) key

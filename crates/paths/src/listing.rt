@@ -7,7 +7,11 @@ use std::alloc::AllocError;
 use std::alloc::Global;
 
 // Every cell in which the key's entry may ever stand, in the order in which they are tried.
-pub fn path_cells<P: PathRule>(heap: Global, rule: &P, key: &[u8; 12]) -> Result<Vec<u32>, AllocError>
+pub fn path_cells<P: PathRule>(
+    heap: Global,
+    rule: &P,
+    key: &[u8; 12],
+) -> Result<Vec<u32>, AllocError>
     ensures { λ r. ⌜ made r (λ v. vec-items v ≡ path (now (rule .entry)) (now (key .entry))) ⌝ }
 {
     let mut cells = Vec::new(heap);

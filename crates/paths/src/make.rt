@@ -61,6 +61,10 @@ impl Rule {
         let shape = Shape::new(settings)?;
         check_coefficients(&shape, coefficients)?;
         let total = shape.total()?;
-        Ok(Rule { shape, total, coefficients: table_of(coefficients) })
+        Ok(Rule {
+            shape,
+            total,
+            coefficients: table_of(coefficients),
+        })
     }
 }

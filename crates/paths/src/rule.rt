@@ -4,8 +4,8 @@ ghost use Prim.Native.Nat.{_≤_};
 ghost use mathlib.Core.Bool.{true};
 ghost use Rattle.trees.specs.Geometry.{first-cell, largest-total};
 ghost use Rattle.trees.specs.Settings.{all-fit};
-use trees::settings::Coefficient;
 use crate::shape::Shape;
+use trees::settings::Coefficient;
 
 // The most levels that a tree has.
 pub const MOST_LEVELS: usize = 16;

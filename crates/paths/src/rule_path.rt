@@ -2,7 +2,7 @@
 ghost use mathlib.Core.Path.{_≡_};
 ghost use Rattle.trees.specs.Paths.{hash-of};
 ghost use Rattle.paths.specs.RuleLaws.{rule-laws};
-ghost use Rattle.paths.specs.Rules.{rule-path, rule-stage, settings-of};
+ghost use Rattle.paths.specs.Rules.{rule-path, rule-stage, settings-of, stage-at};
 use crate::descent::Descent;
 use crate::descent::Tries;
 use crate::path::PathRule;
@@ -18,6 +18,19 @@ fn hash_of(scheme: Scheme, key: &[u8; 12]) -> u32
     match scheme {
         Scheme::Thin | Scheme::Fat => fold(key),
         Scheme::Trie => digest(key),
+    }
+}
+
+// Above level 0, for a key with this hash.
+fn top(rule: &Rule, hash: u32) -> Descent
+    ensures { λ r. ⌜ r ≡ stage-at (settings-of (now (rule .entry))) hash 0 ⌝ }
+{
+    Descent {
+        hash,
+        level: 0,
+        first: 0,
+        span: rule.shape.cells,
+        node: 0,
     }
 }
 
@@ -49,21 +62,26 @@ pub impl PathRule for Rule as RulePath {
     }
 
     fn start(&self, key: &[u8; 12]) -> Descent {
-        Descent { hash: hash_of(self.shape.scheme, key), level: 0, first: 0, span: self.shape.cells, node: 0 }
+        top(self, hash_of(self.shape.scheme, key))
     }
 
     fn descend(&self, at: &mut Descent) -> Option<Tries> {
-        if at.level >= self.shape.levels {
+        let shape = &self.shape;
+        if at.level >= shape.levels {
             return None;
         }
-        let cells = self.shape.cells;
+        let cells = shape.cells;
         let value = self.value(at);
         let node = self.node_of(at.node, value / cells);
         let first = at.first.saturating_add(node.saturating_mul(cells));
         at.level += 1;
         at.first = at.first.saturating_add(at.span);
-        at.span = at.span.saturating_mul(self.shape.children);
+        at.span = at.span.saturating_mul(shape.children);
         at.node = node;
-        Some(Tries { first, index: value % cells, cells })
+        Some(Tries {
+            first,
+            index: value % cells,
+            cells,
+        })
     }
 }

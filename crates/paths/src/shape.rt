@@ -46,12 +46,31 @@ impl Shape {
     pub fn new(settings: Settings) -> Result<Shape, RuleFault>
         ensures { λ r. ⌜ Cases r (λ s. (s .scheme ≡ settings .scheme) × (s .cells ≡ settings .cells) × (s .children ≡ settings .children) × (s .levels ≡ settings .levels) × (s .tries ≡ settings .tries)) (λ f. (f ≡ Setting) × (in-range (settings .scheme) (settings .cells) (settings .children) (settings .levels) (settings .tries) ≡ false)) ⌝ }
     {
-        let Settings { scheme, cells, children, levels, tries } = settings;
-        let in_range = 1 <= cells && cells <= 256 && 2 <= children && children <= 256 && 1 <= levels && levels <= 16 && 1 <= tries && tries <= cells;
+        let Settings {
+            scheme,
+            cells,
+            children,
+            levels,
+            tries,
+        } = settings;
+        let in_range = 1 <= cells
+            && cells <= 256
+            && 2 <= children
+            && children <= 256
+            && 1 <= levels
+            && levels <= 16
+            && 1 <= tries
+            && tries <= cells;
         if !in_range || !takes(scheme, cells as u32, children as u32) {
             return Err(RuleFault::Setting);
         }
-        Ok(Shape { scheme, cells: cells as u32, children: children as u32, levels: levels as u32, tries: tries as u32 })
+        Ok(Shape {
+            scheme,
+            cells: cells as u32,
+            children: children as u32,
+            levels: levels as u32,
+            tries: tries as u32,
+        })
     }
 
     // The first cell of a level, at the level behind the last the total; 1 SETTING past that, 3 SIZE above 1048576.

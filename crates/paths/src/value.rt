@@ -30,7 +30,11 @@ fn range_in_thin(shape: &Shape, level: u32) -> u32
     ensures value { λ r. ⌜ r ≡ thin-range (now (shape .entry) .cells) (now (shape .entry) .children) level ⌝ }
     ensures some { λ r. ⌜ 0 < r ⌝ }
 {
-    if level == 0 { shape.cells } else { shape.cells * shape.children }
+    if level == 0 {
+        shape.cells
+    } else {
+        shape.cells * shape.children
+    }
 }
 
 // The bits of a digest that a trie with so many cells and children takes at a level.
@@ -69,7 +73,10 @@ impl Rule {
         ensures { λ r. ⌜ r ≡ in-32-bits (node-below (now (self .entry) .shape .scheme) (now (self .entry) .shape .children) above child) ⌝ }
     {
         match self.shape.scheme {
-            Scheme::Thin | Scheme::Trie => self.shape.children.saturating_mul(above).saturating_add(child),
+            Scheme::Thin | Scheme::Trie => self.shape
+                .children
+                .saturating_mul(above)
+                .saturating_add(child),
             Scheme::Fat => child,
         }
     }

@@ -29,10 +29,11 @@ same-step m x b d some p q e =
     let q2 = (x + d) / m in
     let one = div-add-mod' (x + b) m in
     let other = div-add-mod' (x + d) m in
-    elim (cases-order q1 q2)
-      [ inl h ↦ omega (arith, one, other, e, ap (λ n. n * m) h)
+    elim (cases-order q1 q2) [
+      | inl h ↦ omega (arith, one, other, e, ap (λ n. n * m) h)
       | inr (inl h) ↦ absurd (omega (arith, one, other, e, mul-le (q1 + 1) m q2 m (omega arith) (omega arith), add-mul q1 1 m, one-mul m))
-      | inr (inr h) ↦ absurd (omega (arith, one, other, e, mul-le (q2 + 1) m q1 m (omega arith) (omega arith), add-mul q2 1 m, one-mul m)) ]
+      | inr (inr h) ↦ absurd (omega (arith, one, other, e, mul-le (q2 + 1) m q1 m (omega arith) (omega arith), add-mul q2 1 m, one-mul m))
+    ]
 
 length-tries : (s : RuleSettings) (hash i : ℕ) → length (tries-at s hash i) ≡ s .tries
 length-tries s hash i = length-map-counting (cell-at s hash i) 0 (s .tries)
@@ -73,12 +74,13 @@ module _ (s : RuleSettings) (hash : ℕ) (some : 1 ≤ s .cells) (fork : 1 ≤ s
 
   same-try : (a b c d : ℕ) → b < s .cells → d < s .cells → cell-at s hash a b ≡ cell-at s hash c d → (a ≡ c) × (b ≡ d)
   same-try a b c d p q e =
-      elim (cases-order a c)
-        [ inl h ↦
+      elim (cases-order a c) [
+        | inl h ↦
             (let f : cell-at s hash a b ≡ cell-at s hash a d = e ∙ ap (λ n. cell-at s hash n d) (sym h) in
             (h, same-step (s .cells) (index-at s hash a) b d some p q (omega (arith, f))))
         | inr (inl h) ↦ absurd (omega (arith, e, apart a b c d h))
-        | inr (inr h) ↦ absurd (omega (arith, e, apart c d a b h)) ]
+        | inr (inr h) ↦ absurd (omega (arith, e, apart c d a b h))
+      ]
 
   pub path-once : 1 ≤ s .tries → s .tries ≤ s .cells → (i j : ℕ) → i < length (path-from s hash) → j < length (path-from s hash) → getD (path-from s hash) i 0 ≡ getD (path-from s hash) j 0 → i ≡ j
   path-once try fits i j h k e =

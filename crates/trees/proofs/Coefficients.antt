@@ -55,11 +55,12 @@ none-unfit level zero [] h = (refl, refl)
 none-unfit level zero (c ∷ cs) h = absurd (let z : _≡_ {A = ℕ} 0 1 = cc in omega arith)
 none-unfit level (suc wanted) [] h = absurd (let z : _≡_ {A = ℕ} 0 1 = cc in omega arith)
 none-unfit level (suc wanted) (c ∷ cs) h =
-    elim (cases-bool (coefficient-fits c))
-      [ inl good ↦
+    elim (cases-bool (coefficient-fits c)) [
+      | inl good ↦
           (let rest = none-unfit (level + 1) wanted cs (sym (cond-true _ _ _ good) ∙ h) in
           (ap suc (rest .0), and-from _ _ good (rest .1)))
-      | inr bad ↦ absurd (let e = sym (cond-false _ (lowest-unfit (level + 1) wanted cs) _ bad) ∙ h in let z : _≡_ {A = ℕ} 0 1 = cc in omega arith) ]
+      | inr bad ↦ absurd (let e = sym (cond-false _ (lowest-unfit (level + 1) wanted cs) _ bad) ∙ h in let z : _≡_ {A = ℕ} 0 1 = cc in omega arith)
+    ]
 
 pub all-fit-append : (cs ds : List Coefficient) → all-fit cs ≡ true → all-fit ds ≡ true → all-fit (cs ++ ds) ≡ true
 all-fit-append [] ds h k = k

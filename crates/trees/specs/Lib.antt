@@ -3,3 +3,4 @@ pub mod Geometry
 pub mod Refusal
 pub mod Paths
 pub mod Laws
+pub mod Examples

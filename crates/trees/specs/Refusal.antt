@@ -54,8 +54,8 @@ coefficient-refusal (Some level) next = Some (Coefficient level)
 abbrev pub rule-refusal : RuleSettings → Option RuleFault
 rule-refusal s =
     cond (in-range (s .scheme) (s .cells) (s .children) (s .levels) (s .tries))
-      (coefficient-refusal (lowest-unfit 0 (coefficients-of (s .scheme) (s .levels)) (s .coefficients)) (size-refusal s))
-      (Some Setting)
+    (coefficient-refusal (lowest-unfit 0 (coefficients-of (s .scheme) (s .levels)) (s .coefficients)) (size-refusal s))
+    (Some Setting)
 
 -- What is answered to the question for a level's first cell, and for the total.
 abbrev pub sized : ℕ → Result ℕ RuleFault

@@ -22,9 +22,10 @@ returns-then-place-coefficients c =
     let wanted = c .levels-with-coefficients-wanted .result in
     let level = c .loop-level .level in
     let here : lowest-unfit level (wanted - level) (drop level cs) ≡ Some level =
-      elim (c .then-place-coefficients .came)
-        [ then-place-coefficients·by·then-place-coefficients w ↦ missing cs level wanted (omega arith) (w .if-place-coefficients .taken)
-        | then-place-coefficients·by·else-place-coefficients·then-not-fits w ↦ unfit cs level wanted _ (omega arith) (w .if-place-coefficients .left) (sym (w .if-not-fits .ensures tt)) ]
+    elim (c .then-place-coefficients .came) [
+      | then-place-coefficients·by·then-place-coefficients w ↦ missing cs level wanted (omega arith) (w .if-place-coefficients .taken)
+      | then-place-coefficients·by·else-place-coefficients·then-not-fits w ↦ unfit cs level wanted _ (omega arith) (w .if-place-coefficients .left) (sym (w .if-not-fits .ensures tt))
+    ]
     in
     sym (ap coefficient-answer (c .loop-level .inv ∙ here)) ∙ told cs wanted _ (c .levels-with-coefficients-wanted .ensures)
 

@@ -9,4 +9,5 @@ returns-else-level-eq0 c =
     let s = c .args .shape .now in
     record {
       value = range-below (s .cells) (s .children) (c .args .level) (c .if-level-eq0 .left);
-      some = omega (arith, mul-le 1 1 (s .cells) (s .children) (s .node .0) (omega (arith, s .fork .0))) }
+      some = omega (arith, mul-le 1 1 (s .cells) (s .children) (s .node .0) (omega (arith, s .fork .0)));
+    }

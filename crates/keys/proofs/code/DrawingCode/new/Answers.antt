@@ -26,17 +26,19 @@ loop-place-again c =
     let b = getD text i 0 in
     let good : of-code b ≡ true = sym (first-byte b) ∙ sym (ap isSome (c .after .ensures)) ∙ c .if-is-none .ensures tt in
     let more : take (i + 1) text ≡ take i text ++ b ∷ [] = take-more text i 0 (omega arith) in
-    let long : length (take i text) ≡ i = length-take-le i text (omega arith) in
-    (ap (λ bs. set bs i b) (c .loop-place .inv .0) ∙ padded-more (take i text) i b long (omega arith) ∙ ap (λ xs. xs ++ replicate (12 - (i + 1)) 0) (sym more),
-    ap all-of-code more ∙ all-of-code-push (take i text) b (c .loop-place .inv .1) good)
+    let long : length (take i text) ≡ i = length-take-le i text (omega arith) in (
+      ap (λ bs. set bs i b) (c .loop-place .inv .0) ∙ padded-more (take i text) i b long (omega arith) ∙ ap (λ xs. xs ++ replicate (12 - (i + 1)) 0) (sym more),
+      ap all-of-code more ∙ all-of-code-push (take i text) b (c .loop-place .inv .1) good,
+    )
 
 -- What stands after the loop, for the code's own fact and for the answer.
 whole : (bytes text : List ℕ) (i : ℕ) → i ≤ length text → length text ≤ i → (bytes ≡ take i text ++ replicate (12 - i) 0) × (all-of-code (take i text) ≡ true) → (bytes ≡ padded text) × (all-of-code text ≡ true)
 whole bytes text i low high inv =
     let last : i ≡ length text = omega arith in
-    let all : take i text ≡ text = take-all i text high in
-    (inv .0 ∙ ap (λ xs. xs ++ replicate (12 - i) 0) all ∙ ap (λ n. text ++ replicate (12 - n) 0) last,
-    ap all-of-code (sym all) ∙ inv .1)
+    let all : take i text ≡ text = take-all i text high in (
+      inv .0 ∙ ap (λ xs. xs ++ replicate (12 - i) 0) all ∙ ap (λ n. text ++ replicate (12 - n) 0) last,
+      ap all-of-code (sym all) ∙ inv .1,
+    )
 
 some : (text : List ℕ) → false ≡ eqb (length text) 0 → 0 < length text
 some text h = omega (arith, eqb-false (length text) 0 (sym h))

@@ -20,6 +20,7 @@ returns c =
     let cs = c .args .coefficients .now in
     let fit = c .in-Continue-check-coefficients .ensures tt in
     let asked = shaped s (c .args .settings) cs (c .in-Continue-shape .ensures tt) in
-    let held = table-holds s cs fit (c .table-of .result) (c .table-of .ensures) in
-    (ap rule-refusal (sym asked) ∙ not-refused s cs fit (c .in-Continue-total .total) (c .in-Continue-total .ensures tt),
-    ap (λ table. record { scheme = s .scheme; cells = s .cells; children = s .children; levels = s .levels; tries = s .tries; coefficients = table }) held ∙ asked)
+    let held = table-holds s cs fit (c .table-of .result) (c .table-of .ensures) in (
+      ap rule-refusal (sym asked) ∙ not-refused s cs fit (c .in-Continue-total .total) (c .in-Continue-total .ensures tt),
+      ap (λ table. record { scheme = s .scheme; cells = s .cells; children = s .children; levels = s .levels; tries = s .tries; coefficients = table }) held ∙ asked,
+    )

@@ -27,10 +27,11 @@ mul-span c =
 
 pub loop-again : need.loop-again
 loop-again c =
-    let s = c .args .self .now in
-    (omega (arith, first-cell-more (s .cells) (s .children) (c .loop .counter)),
-    ap (λ n. n * s .children) (c .loop .inv .1) ∙ sym (span-more (s .cells) (s .children) (c .loop .counter)),
-    omega arith)
+    let s = c .args .self .now in (
+      omega (arith, first-cell-more (s .cells) (s .children) (c .loop .counter)),
+      ap (λ n. n * s .children) (c .loop .inv .1) ∙ sym (span-more (s .cells) (s .children) (c .loop .counter)),
+      omega arith,
+    )
 
 pub returns : need.returns
 returns c =

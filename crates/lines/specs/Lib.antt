@@ -1,0 +1,5 @@
+pub mod Cutting
+pub mod Fault
+pub mod Fields
+pub mod Readers
+pub mod Text
