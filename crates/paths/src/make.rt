@@ -30,14 +30,13 @@ fn levels_with_coefficients(shape: &Shape) -> u32
 fn check_coefficients(shape: &Shape, coefficients: &[Coefficient]) -> Result<(), RuleFault>
     ensures { λ r. ⌜ r ≡ coefficient-answer (lowest-unfit 0 (coefficients-of (now (shape .entry) .scheme) (now (shape .entry) .levels)) (now (coefficients .entry))) ⌝ }
 {
-    let wanted = levels_with_coefficients(shape);
+    let wanted = levels_with_coefficients(shape) as usize;
     for level in 0..wanted {
-        let place = level as usize;
-        if place >= coefficients.len() || !coefficients[place].fits() {
+        if level >= coefficients.len() || !coefficients[level].fits() {
             return Err(RuleFault::Coefficient(level));
         }
     }
-    if coefficients.len() > wanted as usize {
+    if coefficients.len() > wanted {
         return Err(RuleFault::Coefficient(wanted));
     }
     Ok(())

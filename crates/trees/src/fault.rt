@@ -7,7 +7,7 @@ pub enum RuleFault {
     // 1 SETTING: a number outside its range, or a trie whose m and k do not fit.
     Setting,
     // 2 COEFFICIENT: the lowest level whose coefficients are out of range, missing or extra.
-    Coefficient(u32),
+    Coefficient(usize),
     // 3 SIZE: more cells than 1048576.
     Size,
 }
@@ -29,7 +29,7 @@ impl RuleFault {
         ensures { λ r. ⌜ r ≡ rule-detail (now (self .entry)) ⌝ }
     {
         match self {
-            RuleFault::Coefficient(level) => Some(u64::from(*level)),
+            RuleFault::Coefficient(level) => Some(*level as u64),
             RuleFault::Setting | RuleFault::Size => None,
         }
     }
