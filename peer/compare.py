@@ -108,6 +108,11 @@ WRONG_WORDS = [
 ]  # fmt: skip
 
 
+NO_CODE_BYTES = [
+    b"\0", b"a", b"z", b",", b".", b"/", b":", b"@", b"[", b"`", b"{", b"_", b"\r", b"\t", b"\x80", b"\xff",
+]  # fmt: skip
+
+
 def written(rng: random.Random, value: int) -> bytes:
     """A number as a field, now and then with leading zeros."""
     zeros = rng.choice([1, 1, 2, 5, 21]) if rng.random() < 0.05 else 0
@@ -333,7 +338,7 @@ def code_key(rng: random.Random) -> bytes:
         return random_code(rng, rng.randint(1, 12)).lower()
     if pick < 0.92:
         code = random_code(rng, rng.randint(1, 12))
-        other = rng.choice([b"\0", b"a", b"z", b",", b".", b"/", b":", b"@", b"[", b"_", b"\r", b"\t", b"\x80", b"\xff"])
+        other = rng.choice(NO_CODE_BYTES)
         place = rng.randint(0, len(code))
         return code[:place] + other + code[place + rng.choice([0, 1]) :]
     if pick < 0.96:
