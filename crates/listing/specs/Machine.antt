@@ -72,7 +72,7 @@ begun Trie kind s = made kind (wanted s [])
 abbrev pub set-out : Wish → Outcome
 set-out w =
     cond (within 1 256 (w .groups) && in-range (w .settings .scheme) (w .settings .cells) (w .settings .children) (w .settings .levels) (w .settings .tries))
-      (begun (w .settings .scheme) (w .kind) (w .settings)) (refused (Rule Setting), waiting)
+    (begun (w .settings .scheme) (w .kind) (w .settings)) (refused (Rule Setting), waiting)
 
 abbrev pub set-answer : Result Wish LineFault → Outcome
 set-answer (Ok w) = set-out w

@@ -48,7 +48,7 @@ number-then n ts f = then (number-field n ts) (λ x. f x (read-on n ts) (past-fi
 abbrev pub numbers-field : Kind → Scheme → (n : ℕ) (ts : List (List ℕ)) → Result Wish LineFault
 numbers-field kind scheme n ts =
     number-then n ts (λ m n ts. number-then n ts (λ k n ts. number-then n ts (λ l n ts. number-then n ts (λ t n ts. number-then n ts (λ g n ts.
-      then (line-end n ts) (λ _. Ok (record { kind = kind; settings = record { scheme = scheme; cells = m; children = k; levels = l; tries = t }; groups = g })))))))
+    then (line-end n ts) (λ _. Ok (record { kind = kind; settings = record { scheme = scheme; cells = m; children = k; levels = l; tries = t }; groups = g })))))))
 
 abbrev pub scheme-then : Kind → (n : ℕ) (ts : List (List ℕ)) → Result Wish LineFault
 scheme-then kind n ts = then (scheme-field n ts) (λ scheme. numbers-field kind scheme (read-on n ts) (past-first ts))

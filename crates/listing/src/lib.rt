@@ -1,5 +1,5 @@
 // Answers a batch of settings and keys: for each key, every cell in which its entry may stand.
 pub mod fault;
-pub mod wish;
-pub mod state;
 pub mod machine;
+pub mod state;
+pub mod wish;

@@ -36,7 +36,11 @@ use trees::settings::Scheme;
 use trees::settings::Settings;
 
 // A rule with all its coefficients, ready for keys.
-fn complete(kind: Kind, settings: Settings, coefficients: &[Coefficient]) -> Result<(State, Reply), Fault>
+fn complete(
+    kind: Kind,
+    settings: Settings,
+    coefficients: &[Coefficient],
+) -> Result<(State, Reply), Fault>
     ensures { λ r. ⌜ ended r ≡ made kind (wanted settings (now (coefficients .entry))) ⌝ }
 {
     let rule = Rule::new(settings, coefficients)?;
@@ -54,7 +58,14 @@ fn begin(heap: Global, wish: Wish) -> Result<(State, Reply), Fault>
     let Wish { kind, settings, .. } = wish;
     let _ = Shape::new(settings)?;
     match settings.scheme {
-        Scheme::Thin | Scheme::Fat => Ok((State::Collecting { kind, settings, coefficients: Vec::new(heap) }, Reply::Nothing)),
+        Scheme::Thin | Scheme::Fat => Ok((
+            State::Collecting {
+                kind,
+                settings,
+                coefficients: Vec::new(heap),
+            },
+            Reply::Nothing,
+        )),
         Scheme::Trie => complete(kind, settings, &[]),
     }
 }
@@ -70,7 +81,12 @@ fn read_pair(fields: &mut Fields) -> Result<Coefficient, LineFault>
 }
 
 // The coefficients of one level more.
-fn collect(kind: Kind, settings: Settings, mut coefficients: Vec<Coefficient>, pair: Coefficient) -> Result<(State, Reply), Fault>
+fn collect(
+    kind: Kind,
+    settings: Settings,
+    mut coefficients: Vec<Coefficient>,
+    pair: Coefficient,
+) -> Result<(State, Reply), Fault>
     ensures { λ r. ⌜ Barring r (ended r ≡ with-pair kind settings (vec-items coefficients) pair) ⌝ }
 {
     if !pair.fits() {
@@ -78,7 +94,14 @@ fn collect(kind: Kind, settings: Settings, mut coefficients: Vec<Coefficient>, p
     }
     coefficients.push(pair)?;
     if (coefficients.len() as u64) < settings.levels {
-        return Ok((State::Collecting { kind, settings, coefficients }, Reply::Nothing));
+        return Ok((
+            State::Collecting {
+                kind,
+                settings,
+                coefficients,
+            },
+            Reply::Nothing,
+        ));
     }
     complete(kind, settings, &coefficients)
 }
@@ -143,7 +166,12 @@ fn wait(heap: Global, line: &[u8]) -> Result<(State, Reply), Fault>
 }
 
 // The rest of a line that begins with `coef`.
-fn take_pair(kind: Kind, settings: Settings, coefficients: Vec<Coefficient>, fields: &mut Fields) -> Result<(State, Reply), Fault>
+fn take_pair(
+    kind: Kind,
+    settings: Settings,
+    coefficients: Vec<Coefficient>,
+    fields: &mut Fields,
+) -> Result<(State, Reply), Fault>
     ensures { λ r. ⌜ Barring r (ended r ≡ pair-answer kind settings (vec-items coefficients) (pair-field (fields-read (now (fields .entry))) (fields-left (now (fields .entry))))) ⌝ }
 {
     let pair = read_pair(fields)?;
@@ -151,14 +179,26 @@ fn take_pair(kind: Kind, settings: Settings, coefficients: Vec<Coefficient>, fie
 }
 
 // A line while coefficients are collected.
-fn take_coef(kind: Kind, settings: Settings, coefficients: Vec<Coefficient>, line: &[u8]) -> (State, Result<Reply, Fault>)
+fn take_coef(
+    kind: Kind,
+    settings: Settings,
+    coefficients: Vec<Coefficient>,
+    line: &[u8],
+) -> (State, Result<Reply, Fault>)
     ensures short { λ r. ⌜ Lacking (r .1) (phase (r .0) ≡ waiting) ⌝ }
     ensures told { λ r. ⌜ Barring (r .1) (_≡_ {A = Outcome} (answered (r .1), phase (r .0)) (taken (collecting kind settings (vec-items coefficients)) (now (line .entry)))) ⌝ }
 {
     let mut fields = Fields::new(line);
     match fields.word(b"coef") {
         Ok(()) => settled(take_pair(kind, settings, coefficients, &mut fields)),
-        Err(fault) => (State::Collecting { kind, settings, coefficients }, Err(Fault::Line(fault))),
+        Err(fault) => (
+            State::Collecting {
+                kind,
+                settings,
+                coefficients,
+            },
+            Err(Fault::Line(fault)),
+        ),
     }
 }
 
@@ -170,7 +210,11 @@ impl State {
     {
         match self {
             State::Waiting => settled(wait(heap, line)),
-            State::Collecting { kind, settings, coefficients } => take_coef(kind, settings, coefficients, line),
+            State::Collecting {
+                kind,
+                settings,
+                coefficients,
+            } => take_coef(kind, settings, coefficients, line),
             State::Ready { kind, rule } => {
                 let answer = list(heap, kind, &rule, line);
                 (State::Ready { kind, rule }, answer)
@@ -193,7 +237,9 @@ impl Listing {
     pub fn new() -> Listing
         ensures { λ r. ⌜ phase (r .state) ≡ waiting ⌝ }
     {
-        Listing { state: State::Waiting }
+        Listing {
+            state: State::Waiting,
+        }
     }
 
     // Answers one line; 15 LINE, and all as it was, where it is too long.

@@ -34,7 +34,9 @@ fn read_kind(fields: &mut Fields) -> Result<Kind, LineFault>
     } else if field.is_word(b"code") {
         Ok(Kind::Code)
     } else {
-        Err(LineFault { field: field.number })
+        Err(LineFault {
+            field: field.number,
+        })
     }
 }
 
@@ -51,7 +53,9 @@ fn read_scheme(fields: &mut Fields) -> Result<Scheme, LineFault>
     } else if field.is_word(b"trie") {
         Ok(Scheme::Trie)
     } else {
-        Err(LineFault { field: field.number })
+        Err(LineFault {
+            field: field.number,
+        })
     }
 }
 
