@@ -56,24 +56,24 @@ impl Fault {
 pub impl From<LineFault> for Fault as FaultFromLine {
     ghost converts = { λ x y. y ≡ InLine x };
 
-    fn from(fault: LineFault) -> Fault {
-        Fault::Line(fault)
+    fn from(line: LineFault) -> Fault {
+        Fault::Line(line)
     }
 }
 
 pub impl From<KeyFault> for Fault as FaultFromKey {
     ghost converts = { λ x y. y ≡ InKey x };
 
-    fn from(fault: KeyFault) -> Fault {
-        Fault::Key(fault)
+    fn from(key: KeyFault) -> Fault {
+        Fault::Key(key)
     }
 }
 
 pub impl From<RuleFault> for Fault as FaultFromRule {
     ghost converts = { λ x y. y ≡ InRule x };
 
-    fn from(fault: RuleFault) -> Fault {
-        Fault::Rule(fault)
+    fn from(rule: RuleFault) -> Fault {
+        Fault::Rule(rule)
     }
 }
 
