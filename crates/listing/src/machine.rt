@@ -24,7 +24,7 @@ use keys::sheet::SheetNumber;
 use keys::sheet_kind::SheetKey;
 use lines::fault::LineFault;
 use lines::field::Fields;
-use paths::listing::path_cells;
+use paths::cells::path_cells;
 use paths::path::PathRule;
 use paths::rule::Rule;
 use paths::rule_path::RulePath;

@@ -1,3 +1,4 @@
 pub mod Descents
+pub mod Fronts
 pub mod Making
 pub mod Values

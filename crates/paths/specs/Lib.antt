@@ -1,3 +1,4 @@
+pub mod Levels
 pub mod Tries
 pub mod Making
 pub mod Rules

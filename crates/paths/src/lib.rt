@@ -1,6 +1,6 @@
 // Path rules: for each key the list of cells in which its entry may ever stand, settled by the key alone.
+pub mod cells;
 pub mod descent;
-pub mod listing;
 pub mod make;
 pub mod path;
 pub mod rule;

@@ -9,6 +9,7 @@ ghost use Rattle.trees.specs.Refusal.{coefficients-of, lowest-unfit, rule-refus
 ghost use Rattle.trees.specs.Settings.{wanted};
 ghost use Rattle.paths.specs.Making.{coefficient-answer};
 ghost use Rattle.paths.specs.Rules.{settings-of};
+use crate::rule::MOST_LEVELS;
 use crate::rule::Rule;
 use crate::shape::Shape;
 use trees::fault::RuleFault;
@@ -43,11 +44,11 @@ fn check_coefficients(shape: &Shape, coefficients: &[Coefficient]) -> Result<(),
 }
 
 // At most 16 coefficients in a table of 16.
-fn table_of(coefficients: &[Coefficient]) -> [Coefficient; 16]
+fn table_of(coefficients: &[Coefficient]) -> [Coefficient; MOST_LEVELS]
     requires { ⌜ length (now coefficients) ≤ 16 ⌝ }
     ensures { λ r. ⌜ r ≡ now (coefficients .entry) ++ replicate (16 - length (now (coefficients .entry))) (record { a = 1; b = 0 }) ⌝ }
 {
-    let mut table = [Coefficient { a: 1, b: 0 }; 16];
+    let mut table = [Coefficient { a: 1, b: 0 }; MOST_LEVELS];
     table[0..coefficients.len()].copy_from_slice(coefficients);
     table
 }

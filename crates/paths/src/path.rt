@@ -1,13 +1,11 @@
 // What a path rule is.
 ghost use mathlib.Core.Path.{_≡_};
 ghost use mathlib.Core.List.{List};
-ghost use Prim.Native.Nat.{ℕ, _+_, _*_, _<_, _≤_};
-ghost use lib.ListN.{getD};
-ghost use Rattle.std.specs.Options.{Cases};
+ghost use Prim.Native.Nat.{ℕ, _+_, _<_, _≤_};
 ghost use Rattle.std.specs.declared.option.Option.the-variants.{None};
 ghost use Rattle.trees.specs.Laws.{RuleLaws};
 ghost use Rattle.trees.specs.Settings.{RuleSettings};
-ghost use Rattle.paths.specs.Tries.{try-cell};
+ghost use Rattle.paths.specs.Levels.{Has-tries};
 ghost use Rattle.paths.specs.declared.descent.Descent.{Descent};
 use crate::descent::Descent;
 use crate::descent::Tries;
@@ -48,6 +46,6 @@ pub trait PathRule {
 
     // One level down: the tries there, or nothing past the last level.
     fn descend(&self, at: &mut Descent) -> Option<Tries>
-        ensures down { λ r. ⌜ ((key : List ℕ) (i : ℕ) → i < depth (now (self .entry)) → now (at .entry) ≡ stage (now (self .entry)) key i → (now (at .exit) ≡ stage (now (self .entry)) key (i + 1)) × Cases r ⊥ (λ tries. (j : ℕ) → j < width (now (self .entry)) → try-cell (tries .first) (tries .index) (tries .cells) j ≡ getD (path (now (self .entry)) key) (i * width (now (self .entry)) + j) 0)) ⌝ }
+        ensures down { λ r. ⌜ ((key : List ℕ) (level : ℕ) → level < depth (now (self .entry)) → now (at .entry) ≡ stage (now (self .entry)) key level → (now (at .exit) ≡ stage (now (self .entry)) key (level + 1)) × Has-tries (path (now (self .entry)) key) (width (now (self .entry))) level r) ⌝ }
         ensures ended { λ r. ⌜ (depth (now (self .entry)) ≤ now (at .entry) .level → (r ≡ None) × (now (at .exit) ≡ now (at .entry))) ⌝ };
 }

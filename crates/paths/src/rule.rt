@@ -15,7 +15,7 @@ pub const MOST_LEVELS: usize = 16;
 pub struct Rule {
     pub(crate) shape: Shape,
     pub(crate) total: u32,
-    pub(crate) coefficients: [Coefficient; 16],
+    pub(crate) coefficients: [Coefficient; MOST_LEVELS],
     ghost whole: { total ≡ first-cell (shape .cells) (shape .children) (shape .levels) },
     ghost small: { total ≤ largest-total },
     ghost fit: { all-fit coefficients ≡ true },

@@ -3,7 +3,7 @@ use mathlib.Core.Path.{_≡_}
 use Prim.Native.Nat.{_+_, _*_}
 use lib.ListN.{take}
 use Rattle.std.specs.Of.Vec.{vec-items}
-use Rattle.paths.proofs.listing.path_cells.Given as given
+use Rattle.paths.proofs.cells.path_cells.Given as given
 
 abbrev pub Inv-loop-level : given.InvT-loop-level
 Inv-loop-level g l =
