@@ -7,7 +7,7 @@ use trees::settings::Scheme;
 use trees::settings::Settings;
 
 // The number of a key's refusal, 0 where there is none.
-pub fn refused_key<K: Drop>(result: Result<K, KeyFault>) -> u32 {
+pub(crate) fn refused_key<K: Drop>(result: Result<K, KeyFault>) -> u32 {
     match result {
         Ok(_) => 0,
         Err(fault) => fault.number(),
@@ -15,7 +15,7 @@ pub fn refused_key<K: Drop>(result: Result<K, KeyFault>) -> u32 {
 }
 
 // The number of a rule's refusal and its detail, 0 where there is none.
-pub fn refused_rule<R: Drop>(result: Result<R, RuleFault>) -> (u32, u64) {
+pub(crate) fn refused_rule<R: Drop>(result: Result<R, RuleFault>) -> (u32, u64) {
     match result {
         Ok(_) => (0, 0),
         Err(fault) => (fault.number(), fault.detail().unwrap_or(0)),
@@ -23,7 +23,7 @@ pub fn refused_rule<R: Drop>(result: Result<R, RuleFault>) -> (u32, u64) {
 }
 
 // The refusal of a rule with these numbers and the same coefficients at so many levels.
-pub fn refused(scheme: Scheme, numbers: [u64; 4], coefficients: &[Coefficient]) -> (u32, u64) {
+pub(crate) fn refused(scheme: Scheme, numbers: [u64; 4], coefficients: &[Coefficient]) -> (u32, u64) {
     let [cells, children, levels, tries] = numbers;
     refused_rule(Rule::new(
         Settings {
