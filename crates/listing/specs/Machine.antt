@@ -1,5 +1,5 @@
 -- What the listing answers to each line, and what it waits for then.
-use Prim.Native.Nat.{ℕ}
+use Prim.Native.Nat.{ℕ, _≤_}
 use mathlib.Core.Path.{_≡_}
 use mathlib.Core.Bool.{Bool, true, false, cond, _&&_}
 use mathlib.Core.List.{List, [], _∷_, _++_}
@@ -11,6 +11,7 @@ use Rattle.std.specs.declared.option.Option.the-variants.{None, Some}
 use Rattle.std.specs.declared.result.Result.{Result}
 use Rattle.std.specs.declared.result.Result.the-variants.{Ok, Err}
 use Rattle.std.specs.Of.Vec.{vec-items}
+use Rattle.std.specs.Results.{isOk}
 use Rattle.keys.specs.Codes.{code-text, padded}
 use Rattle.keys.specs.Sheets.{largest-sheet, sheet-bytes}
 use Rattle.keys.specs.declared.fault.KeyFault.the-variants.{Inadmissible}
@@ -169,7 +170,22 @@ after-shortage waiting = waiting
 after-shortage (collecting kind s pairs) = waiting
 after-shortage (ready kind s) = ready kind s
 
--- One line: the answer and what is waited for then are those of the rules.
+-- Memory is asked for only to keep coefficients that fit, and to list the path of a key.
+abbrev pub pair-kept : Result Pair LineFault → Bool
+pair-kept (Ok p) = coefficient-fits p
+pair-kept (Err f) = false
+
+abbrev pub coef-kept : Result (Unit {0}) LineFault → (n : ℕ) (ts : List (List ℕ)) → Bool
+coef-kept (Ok _) n ts = pair-kept (pair-field n ts)
+coef-kept (Err f) n ts = false
+
+abbrev pub wants-memory : Phase → List ℕ → Bool
+wants-memory waiting line = false
+wants-memory (collecting kind s pairs) line =
+    coef-kept (word-field (codes "coef") 0 (fields-of line)) (read-on 0 (fields-of line)) (past-first (fields-of line))
+wants-memory (ready kind s) line = isOk (key-of kind (fields-of line))
+
+-- One line: the answer and what is waited for then are those of the rules. Memory may run out only where it is asked for.
 pub record Steps (before : Phase) (line : List ℕ) (answer : Result Reply Fault) (after : Phase) : Type 0 where
   pub told : Barring answer (_≡_ {A = Outcome} (answered answer, after) (outcome before line))
-  pub short : Lacking answer (after ≡ after-shortage before)
+  pub short : Lacking answer ((length line ≤ 80) × (wants-memory before line ≡ true) × (after ≡ after-shortage before))

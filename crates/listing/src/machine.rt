@@ -1,11 +1,13 @@
 // The listing, line by line.
 ghost use mathlib.Core.Path.{_≡_};
+ghost use mathlib.Core.Bool.{true};
 ghost use Rattle.std.specs.Of.Vec.{vec-items};
+ghost use Rattle.std.specs.Results.{isOk};
 ghost use Rattle.lines.specs.Readers.{fields-left, fields-read};
 ghost use Rattle.lines.specs.Text.{fields-of};
 ghost use Rattle.paths.specs.Rules.{settings-of};
-ghost use Rattle.trees.specs.Settings.{wanted};
-ghost use Rattle.listing.specs.Machine.{Barring, Lacking, Outcome, Steps, after-shortage, answered, code-key, collecting, ended, key-answer, key-of, made, pair-answer, pair-field, phase, ready, set-answer, set-out, sheet-key, taken, waiting, with-pair};
+ghost use Rattle.trees.specs.Settings.{coefficient-fits, wanted};
+ghost use Rattle.listing.specs.Machine.{Barring, Lacking, Outcome, Steps, after-shortage, answered, code-key, collecting, ended, key-answer, key-of, made, pair-answer, pair-field, pair-kept, phase, ready, set-answer, set-out, sheet-key, taken, waiting, wants-memory, with-pair};
 ghost use Rattle.listing.specs.Wishes.{set-line};
 use crate::fault::Fault;
 use crate::fault::FaultFromAlloc;
@@ -87,7 +89,8 @@ fn collect(
     mut coefficients: Vec<Coefficient>,
     pair: Coefficient,
 ) -> Result<(State, Reply), Fault>
-    ensures { λ r. ⌜ Barring r (ended r ≡ with-pair kind settings (vec-items coefficients) pair) ⌝ }
+    ensures told { λ r. ⌜ Barring r (ended r ≡ with-pair kind settings (vec-items coefficients) pair) ⌝ }
+    ensures short { λ r. ⌜ Lacking r (coefficient-fits pair ≡ true) ⌝ }
 {
     if !pair.fits() {
         return Err(Fault::Rule(RuleFault::Coefficient(coefficients.len())));
@@ -141,7 +144,8 @@ fn read_key(kind: Kind, line: &[u8]) -> Result<[u8; 12], Fault>
 
 // The path of a key.
 fn list(heap: Global, kind: Kind, rule: &Rule, line: &[u8]) -> Result<Reply, Fault>
-    ensures { λ r. ⌜ Barring r (_≡_ {A = Outcome} (answered r, ready kind (settings-of (now (rule .entry)))) (key-answer kind (settings-of (now (rule .entry))) (key-of kind (fields-of (now (line .entry)))))) ⌝ }
+    ensures short { λ r. ⌜ Lacking r (isOk (key-of kind (fields-of (now (line .entry)))) ≡ true) ⌝ }
+    ensures told { λ r. ⌜ Barring r (_≡_ {A = Outcome} (answered r, ready kind (settings-of (now (rule .entry)))) (key-answer kind (settings-of (now (rule .entry))) (key-of kind (fields-of (now (line .entry)))))) ⌝ }
 {
     let key = read_key(kind, line)?;
     let cells = path_cells(heap, rule, &key)?;
@@ -172,7 +176,8 @@ fn take_pair(
     coefficients: Vec<Coefficient>,
     fields: &mut Fields,
 ) -> Result<(State, Reply), Fault>
-    ensures { λ r. ⌜ Barring r (ended r ≡ pair-answer kind settings (vec-items coefficients) (pair-field (fields-read (now (fields .entry))) (fields-left (now (fields .entry))))) ⌝ }
+    ensures short { λ r. ⌜ Lacking r (pair-kept (pair-field (fields-read (now (fields .entry))) (fields-left (now (fields .entry)))) ≡ true) ⌝ }
+    ensures told { λ r. ⌜ Barring r (ended r ≡ pair-answer kind settings (vec-items coefficients) (pair-field (fields-read (now (fields .entry))) (fields-left (now (fields .entry))))) ⌝ }
 {
     let pair = read_pair(fields)?;
     collect(kind, settings, coefficients, pair)
@@ -185,7 +190,7 @@ fn take_coef(
     coefficients: Vec<Coefficient>,
     line: &[u8],
 ) -> (State, Result<Reply, Fault>)
-    ensures short { λ r. ⌜ Lacking (r .1) (phase (r .0) ≡ waiting) ⌝ }
+    ensures short { λ r. ⌜ Lacking (r .1) ((wants-memory (collecting kind settings (vec-items coefficients)) (now (line .entry)) ≡ true) × (phase (r .0) ≡ waiting)) ⌝ }
     ensures told { λ r. ⌜ Barring (r .1) (_≡_ {A = Outcome} (answered (r .1), phase (r .0)) (taken (collecting kind settings (vec-items coefficients)) (now (line .entry)))) ⌝ }
 {
     let mut fields = Fields::new(line);
@@ -206,7 +211,7 @@ impl State {
     // Takes one line: what waits for the next, and the answer.
     fn take(self, heap: Global, line: &[u8]) -> (State, Result<Reply, Fault>)
         ensures told { λ r. ⌜ Barring (r .1) (_≡_ {A = Outcome} (answered (r .1), phase (r .0)) (taken (phase self) (now (line .entry)))) ⌝ }
-        ensures short { λ r. ⌜ Lacking (r .1) (phase (r .0) ≡ after-shortage (phase self)) ⌝ }
+        ensures short { λ r. ⌜ Lacking (r .1) ((wants-memory (phase self) (now (line .entry)) ≡ true) × (phase (r .0) ≡ after-shortage (phase self))) ⌝ }
     {
         match self {
             State::Waiting => settled(wait(heap, line)),

@@ -1,6 +1,5 @@
--- A rule's settings, paths and stages, and the laws of a path rule for it.
-use Prim.Native.Nat.{ℕ, _+_, _*_, _<_, _≤_}
-use mathlib.Core.Path.{_≡_, ap}
+-- A rule's settings, paths and stages.
+use Prim.Native.Nat.{ℕ}
 use mathlib.Core.List.{List}
 use lib.ListN.{take}
 use Rattle.paths.specs.declared.descent.Descent.{Descent}

@@ -1,7 +1,7 @@
 // The whole path of a key as a list.
-ghost use mathlib.Core.Path.{_≡_};
 ghost use Rattle.std.specs.Of.Vec.{vec-items};
 ghost use Rattle.std.specs.Vec.{made};
+ghost use Rattle.trees.specs.Laws.{PathPromise};
 use crate::path::PathRule;
 use std::alloc::AllocError;
 use std::alloc::Global;
@@ -12,7 +12,7 @@ pub fn path_cells<P: PathRule>(
     rule: &P,
     key: &[u8; 12],
 ) -> Result<Vec<u32>, AllocError>
-    ensures { λ r. ⌜ made r (λ v. vec-items v ≡ path (now (rule .entry)) (now (key .entry))) ⌝ }
+    ensures { λ r. ⌜ made r (λ v. PathPromise settings extent depth width path (now (rule .entry)) (now (key .entry)) (vec-items v)) ⌝ }
 {
     let mut cells = Vec::new(heap);
     let mut at = rule.start(key);

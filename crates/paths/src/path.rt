@@ -1,7 +1,9 @@
 // What a path rule is.
 ghost use mathlib.Core.Path.{_≡_};
+ghost use mathlib.Core.Bool.{true};
 ghost use mathlib.Core.List.{List};
 ghost use Prim.Native.Nat.{ℕ, _+_, _<_, _≤_};
+ghost use Rattle.std.specs.Options.{isSome};
 ghost use Rattle.std.specs.declared.option.Option.the-variants.{None};
 ghost use Rattle.trees.specs.Laws.{RuleLaws};
 ghost use Rattle.trees.specs.Settings.{RuleSettings};
@@ -15,10 +17,9 @@ pub trait PathRule {
     // All that settles its paths.
     ghost settings: { Self → RuleSettings };
 
-    // The cells of all levels.
+    // What `total`, `levels` and `tries` answer: the cells of all levels, the levels, and the tries in each.
     ghost extent: { Self → ℕ };
 
-    // The levels, and the tries in each.
     ghost depth: { Self → ℕ };
 
     ghost width: { Self → ℕ };
@@ -28,6 +29,8 @@ pub trait PathRule {
 
     // Where a key's path comes into a level.
     ghost stage: { Self → List ℕ → ℕ → Descent };
+
+    ghost placed: { (rule : Self) (key : List ℕ) (level : ℕ) → stage rule key level .level ≡ level };
 
     ghost laws: { RuleLaws settings extent depth width path };
 
@@ -47,5 +50,6 @@ pub trait PathRule {
     // One level down: the tries there, or nothing past the last level.
     fn descend(&self, at: &mut Descent) -> Option<Tries>
         ensures down { λ r. ⌜ ((key : List ℕ) (level : ℕ) → level < depth (now (self .entry)) → now (at .entry) ≡ stage (now (self .entry)) key level → (now (at .exit) ≡ stage (now (self .entry)) key (level + 1)) × Has-tries (path (now (self .entry)) key) (width (now (self .entry))) level r) ⌝ }
+        ensures onward { λ r. ⌜ (now (at .entry) .level < depth (now (self .entry)) → (isSome r ≡ true) × (now (at .exit) .level ≡ now (at .entry) .level + 1)) ⌝ }
         ensures ended { λ r. ⌜ (depth (now (self .entry)) ≤ now (at .entry) .level → (r ≡ None) × (now (at .exit) ≡ now (at .entry))) ⌝ };
 }

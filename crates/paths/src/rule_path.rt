@@ -1,6 +1,9 @@
 // A rule as a path rule: the way down its levels.
-ghost use mathlib.Core.Path.{_≡_};
+ghost use mathlib.Core.Path.{_≡_, refl};
+ghost use mathlib.Core.List.{List};
+ghost use Prim.Native.Nat.{ℕ, _+_, _<_};
 ghost use Rattle.trees.specs.Paths.{hash-of};
+ghost use Rattle.paths.specs.Levels.{Tries-of};
 ghost use Rattle.paths.specs.RuleLaws.{rule-laws};
 ghost use Rattle.paths.specs.Rules.{rule-path, rule-stage, settings-of, stage-at};
 use crate::descent::Descent;
@@ -34,6 +37,26 @@ fn top(rule: &Rule, hash: u32) -> Descent
     }
 }
 
+// One level down: where the path comes into the level behind it, and the tries of the level.
+fn below(rule: &Rule, at: &Descent) -> (Descent, Tries)
+    requires { ⌜ now at .level < now rule .shape .levels ⌝ }
+    ensures down { λ r. ⌜ ((key : List ℕ) (level : ℕ) → now (at .entry) ≡ rule-stage (now (rule .entry)) key level → (r .0 ≡ rule-stage (now (rule .entry)) key (level + 1)) × Tries-of (rule-path (now (rule .entry)) key) (now (rule .entry) .shape .tries) level (r .1)) ⌝ }
+    ensures onward { λ r. ⌜ r .0 .level ≡ now (at .entry) .level + 1 ⌝ }
+{
+    let cells = rule.shape.cells;
+    let value = rule.value(at);
+    let node = rule.node_of(at.node, value / cells);
+    let first = at.first.saturating_add(node.saturating_mul(cells));
+    let next = Descent {
+        hash: at.hash,
+        level: at.level + 1,
+        first: at.first.saturating_add(at.span),
+        span: at.span.saturating_mul(rule.shape.children),
+        node,
+    };
+    (next, Tries { first, index: value % cells, cells })
+}
+
 pub impl PathRule for Rule as RulePath {
     ghost settings = { settings-of };
 
@@ -46,6 +69,8 @@ pub impl PathRule for Rule as RulePath {
     ghost path = { rule-path };
 
     ghost stage = { rule-stage };
+
+    ghost placed = { λ r key level. refl };
 
     ghost laws = { rule-laws };
 
@@ -66,22 +91,11 @@ pub impl PathRule for Rule as RulePath {
     }
 
     fn descend(&self, at: &mut Descent) -> Option<Tries> {
-        let shape = &self.shape;
-        if at.level >= shape.levels {
+        if at.level >= self.levels() {
             return None;
         }
-        let cells = shape.cells;
-        let value = self.value(at);
-        let node = self.node_of(at.node, value / cells);
-        let first = at.first.saturating_add(node.saturating_mul(cells));
-        at.level += 1;
-        at.first = at.first.saturating_add(at.span);
-        at.span = at.span.saturating_mul(shape.children);
-        at.node = node;
-        Some(Tries {
-            first,
-            index: value % cells,
-            cells,
-        })
+        let (next, tries) = below(self, at);
+        *at = next;
+        Some(tries)
     }
 }

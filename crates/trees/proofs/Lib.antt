@@ -3,3 +3,4 @@ pub mod Nodes
 pub mod Lists
 pub mod Cells
 pub mod Coefficients
+pub mod Laws

@@ -47,7 +47,7 @@ in-range scheme m k levels tries =
 
 -- a from 1 to p - 1, b from 0 to p - 1
 abbrev pub coefficient-fits : Coefficient → Bool
-coefficient-fits c = within 1 2147483646 (c .a) && ltb (c .b) modulus
+coefficient-fits c = leb 1 (c .a) && (ltb (c .a) modulus && ltb (c .b) modulus)
 
 abbrev pub all-fit : List Coefficient → Bool
 all-fit [] = true

@@ -7,6 +7,8 @@ use lib.ListN.{length}
 use Rattle.std.proofs.shelf.Bits.{mul-add-lt}
 use Rattle.std.proofs.shelf.Lists.{take-all}
 use Rattle.std.proofs.shelf.Parts.{pushed}
+use Rattle.std.specs.Of.Vec.{vec-items}
+use Rattle.trees.proofs.Laws.{promised}
 use Rattle.paths.proofs.Fronts.{front-more}
 use Rattle.paths.proofs.cells.path_cells.Needs as need
 
@@ -29,4 +31,6 @@ returns g c =
     let width = g .P·PathRule .width rule in
     let last : c .loop-level .level ≡ g .P·PathRule .depth rule = omega arith in
     let all : length (g .P·PathRule .path rule (c .args .key .now)) ≤ c .loop-level .level * width = omega (arith, g .P·PathRule .laws .long rule (c .args .key .now), ap (λ n. n * width) last) in
-    c .loop-level .inv .1 ∙ take-all (c .loop-level .level * width) (g .P·PathRule .path rule (c .args .key .now)) all
+    promised (g .P·PathRule .settings) (g .P·PathRule .extent) (g .P·PathRule .depth) (g .P·PathRule .width) (g .P·PathRule .path) (g .P·PathRule .laws) rule
+    (c .args .key .now) (vec-items (c .loop-level .cells))
+    (c .loop-level .inv .1 ∙ take-all (c .loop-level .level * width) (g .P·PathRule .path rule (c .args .key .now)) all)
