@@ -22,8 +22,12 @@ pub(crate) fn refused_rule<R: Drop>(result: Result<R, RuleFault>) -> (u32, u64) 
     }
 }
 
-// The refusal of a rule with these numbers and the same coefficients at so many levels.
-pub(crate) fn refused(scheme: Scheme, numbers: [u64; 4], coefficients: &[Coefficient]) -> (u32, u64) {
+// The refusal of a rule with these numbers m, k, L and t, and these coefficients.
+pub(crate) fn refused(
+    scheme: Scheme,
+    numbers: [u64; 4],
+    coefficients: &[Coefficient],
+) -> (u32, u64) {
     let [cells, children, levels, tries] = numbers;
     refused_rule(Rule::new(
         Settings {

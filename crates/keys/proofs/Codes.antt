@@ -1,18 +1,17 @@
 -- Reading a drawing code byte by byte, and padding a text to its 12 bytes.
 use mathlib.Core.Path.{_≡_, refl, sym, ap, _∙_}
-use mathlib.Core.Bool.{Bool, true, false, cond, not, _&&_}
+use mathlib.Core.Bool.{Bool, true, false, cond, _&&_}
 use mathlib.Core.List.{List, [], _∷_, _++_}
 use mathlib.Core.Logic.{inl, inr}
 use Prim.Native.Nat.{ℕ, zero, suc, _+_, _-_, _<_, _≤_}
-use native.Mathlib.Numerals.{add-one}
 use native.Mathlib.Omega.{arith}
-use lib.Dec.{eqb, ltb}
-use lib.ListN.{length, getD, take, set, replicate, length-take}
+use lib.Dec.{eqb}
+use lib.ListN.{length, getD, take, drop, set, replicate}
 use Rattle.std.specs.Options.{isSome}
 use Rattle.std.specs.declared.option.Option.{Option}
 use Rattle.std.specs.declared.option.Option.the-variants.{None, Some}
-use Rattle.std.proofs.shelf.Lists.{set-at, append-assoc, take-more, length-take-le, take-all, length-append, length-replicate, getD-append-left}
-use Rattle.std.proofs.shelf.Tests.{lt-ltb, le-leb, eq-eqb, and-from, and-left, and-right, and-parts, cases-bool}
+use Rattle.std.proofs.shelf.Lists.{set-at, append-assoc, length-take-le, length-append, length-replicate, take-append-drop}
+use Rattle.std.proofs.shelf.Tests.{lt-ltb, le-leb, eq-eqb, eqb-true, and-from, and-left, and-right, and-parts, cases-bool, cond-true, cond-false}
 use Rattle.keys.specs.Codes.{of-code, only-padding, text-then-padding, after-byte, code-admissible, all-of-code, code-text, padded}
 
 abbrev go-on : Option Bool → (Bool → Bool) → Bool
@@ -116,3 +115,34 @@ padded-admissible xs some few h =
 
 pub code-text-from : (xs : List ℕ) → 0 < length xs → length xs ≤ 12 → all-of-code xs ≡ true → code-text xs ≡ true
 code-text-from xs some few h = and-from _ _ (and-from _ _ (lt-ltb _ _ some) (le-leb _ _ few)) h
+
+-- A byte other than 0 in what is left of a code is text, and is followed by text and padding.
+pub text-goes-on : (b : ℕ) (bs : List ℕ) → text-then-padding (b ∷ bs) ≡ true → (b ≡ 0 → ⊥) → (of-code b ≡ true) × (text-then-padding bs ≡ true)
+text-goes-on b bs h some =
+    elim (cases-bool (of-code b)) [
+      | inl code ↦ (code, sym (cond-true _ _ (only-padding (b ∷ bs)) code) ∙ h)
+      | inr other ↦ absurd (some (eqb-true b 0 (and-parts (eqb b 0) (only-padding bs) (sym (cond-false _ (text-then-padding bs) _ other) ∙ h) .0)))
+    ]
+
+only-padding-is : (bs : List ℕ) → only-padding bs ≡ true → bs ≡ replicate (length bs) 0
+only-padding-is [] h = refl
+only-padding-is (b ∷ bs) h =
+    let parts = and-parts (eqb b 0) (only-padding bs) h in
+    cc (eqb-true b 0 (parts .0), only-padding-is bs (parts .1))
+
+-- A byte 0 in what is left of a code, and all behind it, is padding.
+pub text-ends : (bs : List ℕ) → text-then-padding (0 ∷ bs) ≡ true → 0 ∷ bs ≡ replicate (length (0 ∷ bs)) 0
+text-ends bs h = only-padding-is (0 ∷ bs) h
+
+module _ (bytes : List ℕ) (i : ℕ) (long : length bytes ≡ 12) (code : all-of-code (take i bytes) ≡ true) where
+  front : i ≤ 12 → length (take i bytes) ≡ i
+  front few = length-take-le i bytes (omega arith)
+
+  pub front-text : 0 < i → i ≤ 12 → code-text (take i bytes) ≡ true
+  front-text some few = code-text-from (take i bytes) (omega (arith, front few)) (omega (arith, front few)) code
+
+  -- Behind the text, padding alone: the bytes are the text, padded.
+  pub front-padded : i ≤ 12 → drop i bytes ≡ replicate (12 - i) 0 → bytes ≡ padded (take i bytes)
+  front-padded few rest =
+      sym (take-append-drop i bytes) ∙ ap (λ back. take i bytes ++ back) rest
+      ∙ ap (λ n. take i bytes ++ replicate (12 - n) 0) (sym (front few))

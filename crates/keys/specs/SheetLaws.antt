@@ -1,17 +1,15 @@
 -- Sheet numbers are a kind of key.
-use mathlib.Core.Path.{_≡_, refl, sym, ap, _∙_}
-use mathlib.Core.Bool.{true}
+use mathlib.Core.Path.{_≡_, sym, ap, _∙_}
 use mathlib.Core.HLevel.{isProp→PathP}
 use mathlib.Core.List.{List}
-use Prim.Native.Nat.{ℕ, _≤_, _%_, _^_, _<_}
+use Prim.Native.Nat.{ℕ, _≤_, _^_, _<_}
 use native.Mathlib.Bridge.{le-prop}
 use native.Mathlib.Nat.{mod-eq-of-lt}
 use native.Mathlib.Omega.{arith}
-use lib.Dec.{eqb, leb}
 use lib.ListN.{length}
 use Rattle.std.specs.shelf.Digits.{Under}
-use Rattle.std.proofs.shelf.Tests.{and-parts, eqb-true, le-leb, leb-true}
-use Rattle.bytes.specs.Numbers.{spelled, big-endian}
+use Rattle.std.proofs.shelf.Tests.{and-parts, eqb-true, le-leb}
+use Rattle.bytes.specs.Numbers.{spelled}
 use Rattle.bytes.proofs.Numbers.{spelled-big-endian, under-big-endian, same-from-spelled}
 use Rattle.keys.specs.Sheets.{sheet-bytes, sheet-admissible, largest-sheet}
 use Rattle.keys.specs.Laws.{KeyLaws}

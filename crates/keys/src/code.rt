@@ -1,6 +1,7 @@
 // Drawing codes: 1 to 12 letters, digits and hyphens.
 ghost use mathlib.Core.Path.{_≡_};
 ghost use mathlib.Core.Bool.{true, false};
+ghost use lib.ListN.{take};
 ghost use Rattle.std.specs.Results.{Cases};
 ghost use Rattle.keys.specs.Codes.{after-byte, code-admissible, code-text, padded};
 use crate::fault::KeyFault;
@@ -50,11 +51,26 @@ impl DrawingCode {
         }
         let mut bytes = [0; 12];
         for (place, byte) in text.iter().enumerate() {
+            // In the text a byte must be one that could stand first: padding could not.
             if after(*byte, false, 0).is_none() {
                 return Err(KeyFault::Inadmissible);
             }
             bytes[place] = *byte;
         }
         Ok(DrawingCode { bytes })
+    }
+
+    // How long its text is: the rest of its bytes are padding.
+    pub fn text_len(&self) -> usize
+        ensures text { λ r. ⌜ code-text (take r (now (self .entry) .bytes)) ≡ true ⌝ }
+        ensures rest { λ r. ⌜ now (self .entry) .bytes ≡ padded (take r (now (self .entry) .bytes)) ⌝ }
+    {
+        let bytes = self.bytes;
+        for (place, byte) in bytes.iter().enumerate() {
+            if *byte == 0 {
+                return place;
+            }
+        }
+        12
     }
 }

@@ -1,5 +1,8 @@
 // Kind 1: sheet numbers as keys.
+ghost use mathlib.Core.Bool.{true, false};
 ghost use mathlib.Core.Path.{_≡_};
+ghost use lib.ListN.{length};
+ghost use Rattle.std.specs.Results.{Cases};
 ghost use Rattle.keys.specs.Sheets.{sheet-bytes, sheet-admissible};
 ghost use Rattle.keys.specs.SheetLaws.{sheet-laws};
 use crate::fault::KeyFault;
@@ -9,6 +12,17 @@ use bytes::number_of;
 
 // The kind's number.
 pub const SHEET_KIND: u8 = 1;
+
+// The sheet whose number 12 bytes spell.
+fn spelled_sheet(bytes: &[u8]) -> Result<SheetNumber, KeyFault>
+    requires { ⌜ length (now bytes) ≡ 12 ⌝ }
+    ensures { λ r. ⌜ Cases r (λ k. (sheet-admissible (now (bytes .entry)) ≡ true) × (sheet-bytes (k .number) ≡ now (bytes .entry))) (λ _. sheet-admissible (now (bytes .entry)) ≡ false) ⌝ }
+{
+    match number_of(bytes) {
+        Some(number) => SheetNumber::new(number),
+        None => Err(KeyFault::Inadmissible),
+    }
+}
 
 pub impl Key for SheetNumber as SheetKey {
     ghost mark = { 1 };
@@ -29,12 +43,10 @@ pub impl Key for SheetNumber as SheetKey {
     }
 
     fn from_bytes(bytes: &[u8]) -> Result<SheetNumber, KeyFault> {
-        if bytes.len() != 12 {
-            return Err(KeyFault::Inadmissible);
+        if bytes.len() == 12 {
+            spelled_sheet(bytes)
+        } else {
+            Err(KeyFault::Inadmissible)
         }
-        let Some(number) = number_of(bytes) else {
-            return Err(KeyFault::Inadmissible);
-        };
-        SheetNumber::new(number)
     }
 }

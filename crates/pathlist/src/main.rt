@@ -1,4 +1,5 @@
 // Prints, for settings and keys on standard input, every cell in which each key's entry may ever stand.
+use lines::fault::LineFault;
 use lines::input::Lines;
 use listing::fault::Fault;
 use listing::machine::Listing;
@@ -37,7 +38,7 @@ fn main(rt: LibcRuntime) -> io::Result<()> {
         .take(LONGEST_INPUT as u64 + 1)
         .read_to_end(&mut input)?;
     if input.len() > LONGEST_INPUT {
-        out.write_all(b"no 0 15 0\n")?;
+        print_refusal(&mut out, 0, &Fault::Line(LineFault { field: 0 }))?;
         return out.flush();
     }
     let mut listing = Listing::new();

@@ -54,7 +54,14 @@ fn below(rule: &Rule, at: &Descent) -> (Descent, Tries)
         span: at.span.saturating_mul(rule.shape.children),
         node,
     };
-    (next, Tries { first, index: value % cells, cells })
+    (
+        next,
+        Tries {
+            first,
+            index: value % cells,
+            cells,
+        },
+    )
 }
 
 pub impl PathRule for Rule as RulePath {

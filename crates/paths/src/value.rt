@@ -2,7 +2,6 @@
 ghost use mathlib.Core.Path.{_≡_};
 ghost use mathlib.Core.Bool.{true};
 ghost use Prim.Native.Nat.{_<_, _≤_, _*_};
-ghost use Rattle.keys.specs.Hashes.{modulus};
 ghost use Rattle.trees.specs.Geometry.{span as span-of};
 ghost use Rattle.trees.specs.Paths.{hashed, thin-range, bits-of, value-at, node-below};
 ghost use Rattle.trees.specs.Settings.{coefficient-fits, log-two, scheme-takes};

@@ -16,4 +16,5 @@ promised settings total levels tries path laws rule key cells e =
       long = ap length e ∙ laws .long rule key;
       inside = subst (All (λ cell. cell < total rule)) (sym e) (laws .inside rule key);
       once = subst Once (sym e) (laws .once rule key);
-      settled = λ other same. (laws .same-total other rule same, laws .same-path other rule same key ∙ sym e) }
+      settled = λ other same. (laws .same-total other rule same, laws .same-path other rule same key ∙ sym e);
+    }

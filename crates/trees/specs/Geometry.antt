@@ -10,6 +10,6 @@ abbrev pub first-cell : (m k level : ℕ) → ℕ
 first-cell m k zero = 0
 first-cell m k (suc level) = first-cell m k level + span m k level
 
--- The largest total, and the largest store.
+-- The largest total.
 abbrev pub largest-total : ℕ
 largest-total = 1048576

@@ -1,6 +1,6 @@
 -- Which settings are refused, and the number and detail of each refusal.
 use Prim.Native.Nat.{ℕ, zero, suc, _+_}
-use mathlib.Core.Bool.{Bool, cond}
+use mathlib.Core.Bool.{cond}
 use mathlib.Core.List.{List, [], _∷_}
 use lib.Dec.{leb}
 use Rattle.std.specs.declared.option.Option.{Option}

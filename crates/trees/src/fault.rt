@@ -4,7 +4,7 @@ ghost use Rattle.trees.specs.Refusal.{rule-number, rule-detail};
 
 #[derive(Clone, Copy, PartialEq, Eq, Debug)]
 pub enum RuleFault {
-    // 1 SETTING: a number outside its range, or a trie whose m and k do not fit.
+    // 1 SETTING: a number outside its range, a trie whose m and k do not fit, or a level past the last.
     Setting,
     // 2 COEFFICIENT: the lowest level whose coefficients are out of range, missing or extra.
     Coefficient(usize),
