@@ -28,7 +28,7 @@ use Rattle.trees.specs.declared.settings.Scheme.the-variants.{Thin, Fat, Trie}
 use Rattle.trees.specs.declared.settings.Settings.{Settings}
 use Rattle.trees.specs.Paths.{path-of}
 use Rattle.trees.specs.Refusal.{rule-refusal, total-of}
-use Rattle.trees.specs.Settings.{RuleSettings, coefficient-fits, in-range, wanted, within}
+use Rattle.trees.specs.Settings.{RuleSettings, asked-in-range, coefficient-fits, wanted, within}
 use Rattle.listing.specs.declared.fault.Fault.{Fault}
 use Rattle.listing.specs.declared.fault.Fault.the-variants.{Line, Key, Rule, Memory}
 use Rattle.listing.specs.declared.state.Reply.{Reply}
@@ -72,7 +72,7 @@ begun Trie kind s = made kind (wanted s [])
 
 abbrev pub set-out : Wish → Outcome
 set-out w =
-    cond (within 1 256 (w .groups) && in-range (w .settings .scheme) (w .settings .cells) (w .settings .children) (w .settings .levels) (w .settings .tries))
+    cond (within 1 256 (w .groups) && asked-in-range (w .settings))
     (begun (w .settings .scheme) (w .kind) (w .settings)) (refused (Rule Setting), waiting)
 
 abbrev pub set-answer : Result Wish LineFault → Outcome

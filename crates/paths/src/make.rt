@@ -3,12 +3,9 @@ ghost use mathlib.Core.Path.{_≡_};
 ghost use mathlib.Core.List.{_++_};
 ghost use Prim.Native.Nat.{_-_, _≤_};
 ghost use lib.ListN.{length, replicate};
-ghost use Rattle.std.specs.Results.{Cases};
-ghost use Rattle.std.specs.declared.option.Option.the-variants.{None, Some};
-ghost use Rattle.trees.specs.Refusal.{coefficients-of, lowest-unfit, rule-refusal};
+ghost use Rattle.trees.specs.Refusal.{coefficients-of, lowest-unfit};
 ghost use Rattle.trees.specs.Settings.{wanted};
-ghost use Rattle.paths.specs.Making.{coefficient-answer};
-ghost use Rattle.paths.specs.Rules.{settings-of};
+ghost use Rattle.paths.specs.Making.{Made, coefficient-answer};
 use crate::rule::MOST_LEVELS;
 use crate::rule::Rule;
 use crate::shape::Shape;
@@ -56,7 +53,7 @@ fn table_of(coefficients: &[Coefficient]) -> [Coefficient; MOST_LEVELS]
 impl Rule {
     // The rule with these settings; 1 SETTING, 2 COEFFICIENT or 3 SIZE, in this order, where there is none.
     pub fn new(settings: Settings, coefficients: &[Coefficient]) -> Result<Rule, RuleFault>
-        ensures { λ r. ⌜ Cases r (λ rule. (rule-refusal (wanted settings (now (coefficients .entry))) ≡ None) × (settings-of rule ≡ wanted settings (now (coefficients .entry)))) (λ f. rule-refusal (wanted settings (now (coefficients .entry))) ≡ Some f) ⌝ }
+        ensures { λ r. ⌜ Made (wanted settings (now (coefficients .entry))) r ⌝ }
     {
         let shape = Shape::new(settings)?;
         check_coefficients(&shape, coefficients)?;

@@ -7,7 +7,7 @@ ghost use Rattle.std.specs.Options.{isSome};
 ghost use Rattle.std.specs.declared.option.Option.the-variants.{None};
 ghost use Rattle.trees.specs.Laws.{RuleLaws};
 ghost use Rattle.trees.specs.Settings.{RuleSettings};
-ghost use Rattle.paths.specs.Levels.{Has-tries};
+ghost use Rattle.paths.specs.Levels.{Goes-down};
 ghost use Rattle.paths.specs.declared.descent.Descent.{Descent};
 use crate::descent::Descent;
 use crate::descent::Tries;
@@ -49,7 +49,7 @@ pub trait PathRule {
 
     // One level down: the tries there, or nothing past the last level.
     fn descend(&self, at: &mut Descent) -> Option<Tries>
-        ensures down { λ r. ⌜ ((key : List ℕ) (level : ℕ) → level < depth (now (self .entry)) → now (at .entry) ≡ stage (now (self .entry)) key level → (now (at .exit) ≡ stage (now (self .entry)) key (level + 1)) × Has-tries (path (now (self .entry)) key) (width (now (self .entry))) level r) ⌝ }
+        ensures down { λ r. ⌜ Goes-down depth width path stage (now (self .entry)) (now (at .entry)) (now (at .exit)) r ⌝ }
         ensures onward { λ r. ⌜ (now (at .entry) .level < depth (now (self .entry)) → (isSome r ≡ true) × (now (at .exit) .level ≡ now (at .entry) .level + 1)) ⌝ }
         ensures ended { λ r. ⌜ (depth (now (self .entry)) ≤ now (at .entry) .level → (r ≡ None) × (now (at .exit) ≡ now (at .entry))) ⌝ };
 }

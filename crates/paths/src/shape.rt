@@ -3,7 +3,7 @@ ghost use mathlib.Core.Path.{_≡_};
 ghost use mathlib.Core.Bool.{true, false};
 ghost use Prim.Native.Nat.{_≤_};
 ghost use Rattle.std.specs.Results.{Cases};
-ghost use Rattle.trees.specs.Settings.{in-range, scheme-takes};
+ghost use Rattle.trees.specs.Settings.{AskedFor, asked-in-range, scheme-takes};
 ghost use Rattle.trees.specs.Refusal.{first-cell-answer, total-answer};
 ghost use Rattle.trees.specs.declared.fault.RuleFault.the-variants.{Setting};
 use trees::fault::RuleFault;
@@ -44,7 +44,7 @@ fn takes(scheme: Scheme, cells: u32, children: u32) -> bool
 impl Shape {
     // The shape with these settings; 1 SETTING where one is out of range.
     pub fn new(settings: Settings) -> Result<Shape, RuleFault>
-        ensures { λ r. ⌜ Cases r (λ s. (s .scheme ≡ settings .scheme) × (s .cells ≡ settings .cells) × (s .children ≡ settings .children) × (s .levels ≡ settings .levels) × (s .tries ≡ settings .tries)) (λ f. (f ≡ Setting) × (in-range (settings .scheme) (settings .cells) (settings .children) (settings .levels) (settings .tries) ≡ false)) ⌝ }
+        ensures { λ r. ⌜ Cases r (λ s. AskedFor settings (s .scheme) (s .cells) (s .children) (s .levels) (s .tries)) (λ f. (f ≡ Setting) × (asked-in-range settings ≡ false)) ⌝ }
     {
         let Settings {
             scheme,

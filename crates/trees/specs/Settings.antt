@@ -1,5 +1,6 @@
 -- The settings of a path rule, and which of them are in range.
 use Prim.Native.Nat.{ℕ, _^_}
+use mathlib.Core.Path.{_≡_}
 use mathlib.Core.Bool.{Bool, true, _&&_}
 use mathlib.Core.List.{List, [], _∷_}
 use lib.Count.{trailingZeros}
@@ -44,6 +45,13 @@ scheme-takes Trie m k = eqb m k && (eqb m (2 ^ log-two m) && ltb 0 (log-two m))
 abbrev pub in-range : Scheme → (m k levels tries : ℕ) → Bool
 in-range scheme m k levels tries =
     within 1 256 m && (within 2 256 k && (within 1 16 levels && (within 1 m tries && scheme-takes scheme m k)))
+
+-- Settings as they were asked for: whether their numbers are in range, and that these are their numbers.
+abbrev pub asked-in-range : Settings → Bool
+asked-in-range s = in-range (s .scheme) (s .cells) (s .children) (s .levels) (s .tries)
+
+abbrev pub AskedFor : Settings → Scheme → (m k levels tries : ℕ) → Type 0
+AskedFor s scheme m k levels tries = (scheme ≡ s .scheme) × (m ≡ s .cells) × (k ≡ s .children) × (levels ≡ s .levels) × (tries ≡ s .tries)
 
 -- a from 1 to p - 1, b from 0 to p - 1
 abbrev pub coefficient-fits : Coefficient → Bool
