@@ -1,0 +1,4 @@
+pub mod Joins
+pub mod JoinLaws
+pub mod Windows
+pub mod WindowLaws
