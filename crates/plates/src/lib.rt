@@ -1,4 +1,4 @@
 // The plate: a write-once store in memory that the caller lends, with a place for every cell.
-pub mod plate;
 mod memory;
-
+pub mod plate;
+pub mod set_up;
