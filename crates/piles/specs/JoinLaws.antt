@@ -38,4 +38,5 @@ join-laws {cells = cells} {cells′ = cells′} laws laws′ =
       beyond = λ j d h. cond-false _ _ _ (le-ltb d _ h);
       outside = λ j d h. cond-false _ _ _ (le-ltb d _ h);
       once = λ j d. once-by (ltb d (join-cells (cells (j .first)) (cells′ (j .second)))) (ltb d (cells (j .first))) _ _ _ _ (laws .once (j .first) d) (laws′ .once (j .second) (d - cells (j .first)));
-      long = λ j d x. long-by (ltb d (join-cells (cells (j .first)) (cells′ (j .second)))) (ltb d (cells (j .first))) _ _ x (laws .long (j .first) d x) (laws′ .long (j .second) (d - cells (j .first)) x) }
+      long = λ j d x. long-by (ltb d (join-cells (cells (j .first)) (cells′ (j .second)))) (ltb d (cells (j .first))) _ _ x (laws .long (j .first) d x) (laws′ .long (j .second) (d - cells (j .first)) x);
+    }

@@ -31,4 +31,5 @@ window-laws laws =
       beyond = λ w d h. cond-false _ _ _ (le-ltb d _ h);
       outside = λ w d h. cond-false _ _ _ (le-ltb d _ h);
       once = λ w d. once-by _ _ _ (laws .once (w .below) (w .first + d));
-      long = λ w d x. long-by _ _ x (laws .long (w .below) (w .first + d) x) }
+      long = λ w d x. long-by _ _ x (laws .long (w .below) (w .first + d) x);
+    }

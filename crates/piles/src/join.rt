@@ -31,7 +31,11 @@ impl<S: Store, T: Store> Join<S, T> {
         ensures { λ r. ⌜ Cases r (λ j. (join-fit (S·Store .cells first) (T·Store .cells second) ≡ Ok tt) × (j .first ≡ first) × (j .second ≡ second)) (λ e. (join-fit (S·Store .cells first) (T·Store .cells second) ≡ Err (e .fault)) × (e .first ≡ first) × (e .second ≡ second)) ⌝ }
     {
         if u64::from(first.size()) + u64::from(second.size()) > u64::from(LARGEST_STORE) {
-            return Err(NoJoin { first, second, fault: SetUpFault::Size });
+            return Err(NoJoin {
+                first,
+                second,
+                fault: SetUpFault::Size,
+            });
         }
         Ok(Join { first, second })
     }
@@ -55,7 +59,10 @@ pub impl<S: Store, T: Store> Store for Join<S, T> as JoinStore {
     ghost laws = { join-laws (S·Store .laws) (T·Store .laws) };
 
     fn size(&self) -> u32 {
-        self.first.size().saturating_add(self.second.size()).min(LARGEST_STORE)
+        self.first
+            .size()
+            .saturating_add(self.second.size())
+            .min(LARGEST_STORE)
     }
 
     fn can_take(&self, at: u32) -> bool {
@@ -63,7 +70,11 @@ pub impl<S: Store, T: Store> Store for Join<S, T> as JoinStore {
             return false;
         }
         let first = self.first.size();
-        if at < first { self.first.can_take(at) } else { self.second.can_take(at - first) }
+        if at < first {
+            self.first.can_take(at)
+        } else {
+            self.second.can_take(at - first)
+        }
     }
 
     fn read(&self, at: u32, buffer: &mut [u8]) -> Result<bool, StoreFault> {
@@ -74,7 +85,11 @@ pub impl<S: Store, T: Store> Store for Join<S, T> as JoinStore {
             return Err(StoreFault::Beyond(at));
         }
         let first = self.first.size();
-        if at < first { self.first.read(at, buffer) } else { self.second.read(at - first, buffer) }
+        if at < first {
+            self.first.read(at, buffer)
+        } else {
+            self.second.read(at - first, buffer)
+        }
     }
 
     fn write(&mut self, at: u32, bytes: &[u8]) -> Result<(), StoreFault> {

@@ -1,3 +1,3 @@
 // Stores over stores: a window on a run of cells, and two stores joined. They pile in any order.
-pub mod window;
 pub mod join;
+pub mod window;

@@ -31,19 +31,33 @@ impl<S: Store> Window<S> {
     {
         let size = below.size();
         if count == 0 {
-            return Err(NoWindow { below, fault: SetUpFault::Setting });
+            return Err(NoWindow {
+                below,
+                fault: SetUpFault::Setting,
+            });
         }
         if first > size || count > size - first {
-            return Err(NoWindow { below, fault: SetUpFault::Size });
+            return Err(NoWindow {
+                below,
+                fault: SetUpFault::Size,
+            });
         }
-        Ok(Window { below, first, count })
+        Ok(Window {
+            below,
+            first,
+            count,
+        })
     }
 
     // The store below.
     pub fn into_below(self) -> S
         ensures { λ r. ⌜ r ≡ self .below ⌝ }
     {
-        let Window { below, first: _, count: _ } = self;
+        let Window {
+            below,
+            first: _,
+            count: _,
+        } = self;
         below
     }
 }

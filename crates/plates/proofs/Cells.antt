@@ -19,8 +19,8 @@ module _ (old new : List ℕ) (long : length new ≡ length old) where
       same-lists _ _
       (length-take 24 (drop a new) ∙ ap (min 24) (length-drop a new ∙ ap (λ n. n - a) long ∙ sym (length-drop a old)) ∙ sym (length-take 24 (drop a old)))
       (λ k d l.
-        let lt : k < 24 = omega (arith, length-take 24 (drop a new)) in
-        getD-take 24 (drop a new) k d lt ∙ getD-drop a new k d ∙ h k d lt ∙ sym (getD-drop a old k d) ∙ sym (getD-take 24 (drop a old) k d lt))
+      let lt : k < 24 = omega (arith, length-take 24 (drop a new)) in
+      getD-take 24 (drop a new) k d lt ∙ getD-drop a new k d ∙ h k d lt ∙ sym (getD-drop a old k d) ∙ sym (getD-take 24 (drop a old) k d lt))
 
   pub same-count : (count : ℕ) → plate-cells count new ≡ plate-cells count old
   same-count count = ap (λ n. plate-count count n) long
@@ -45,12 +45,14 @@ module _ (old new : List ℕ) (count at : ℕ) (bytes : List ℕ) (inside : at <
 
   apart : (d : ℕ) → (d ≡ at → ⊥) → plate-cell count new d ≡ plate-cell count old d
   apart d ne =
-      elim (cases-lt d at)
-        [ inl l ↦ same-cell old new (put .long) count d (λ k e h. put .front (25 * d + k) e (omega arith))
-        | inr g ↦ same-cell old new (put .long) count d (λ k e h. put .back (25 * d + k) e (let gt : at < d = omega (arith, ne) in omega arith)) ]
+      elim (cases-lt d at) [
+        | inl l ↦ same-cell old new (put .long) count d (λ k e h. put .front (25 * d + k) e (omega arith))
+        | inr g ↦ same-cell old new (put .long) count d (λ k e h. put .back (25 * d + k) e (let gt : at < d = omega (arith, ne) in omega arith))
+      ]
 
   pub cell-after : (d : ℕ) → plate-cell count new d ≡ changed (plate-cell count old) at (written bytes) d
   cell-after d =
-      elim (cases-eq at d)
-        [ inl e ↦ ap (plate-cell count new) (sym e) ∙ here ∙ sym (cond-true _ _ _ (eq-eqb at d e))
-        | inr n ↦ apart d (λ z. n (sym z)) ∙ sym (cond-false _ _ _ (ne-eqb at d n)) ]
+      elim (cases-eq at d) [
+        | inl e ↦ ap (plate-cell count new) (sym e) ∙ here ∙ sym (cond-true _ _ _ (eq-eqb at d e))
+        | inr n ↦ apart d (λ z. n (sym z)) ∙ sym (cond-false _ _ _ (ne-eqb at d n))
+      ]

@@ -44,5 +44,6 @@ plate-laws =
       outside = λ p d h. and-left _ _ (le-ltb d _ h);
       once = λ p d. once-by (ltb d (plate-cells (p .count) (now (p .memory)))) (eqb (flag (now (p .memory)) d) 0) (place (now (p .memory)) d);
       long = λ p d x e.
-        let parts = held (ltb d (plate-cells (p .count) (now (p .memory)))) (eqb (flag (now (p .memory)) d) 0) (place (now (p .memory)) d) x e in
-        ap length (sym (parts .1)) ∙ length-place (now (p .memory)) d (room-for (p .count) (now (p .memory)) d (ltb-true d _ (parts .0))) }
+          let parts = held (ltb d (plate-cells (p .count) (now (p .memory)))) (eqb (flag (now (p .memory)) d) 0) (place (now (p .memory)) d) x e in
+          ap length (sym (parts .1)) ∙ length-place (now (p .memory)) d (room-for (p .count) (now (p .memory)) d (ltb-true d _ (parts .0)));
+    }

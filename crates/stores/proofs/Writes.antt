@@ -35,9 +35,10 @@ pub write-keeps :
     (size : ℕ) (cell : ℕ → Cell) (takes : ℕ → Bool) (at : ℕ) (bytes : List ℕ) (after : ℕ → Cell) (r : Result (Unit {0}) StoreFault)
     → r ≡ write-answer size cell takes at bytes → ((d : ℕ) → after d ≡ after-write r cell at bytes d) → Kept cell after
 write-keeps size cell takes at bytes after (Ok u) said leaves d x held =
-    elim (cases-bool (eqb at d))
-      [ inl here ↦ absurd (never x (sym (accepted-blank size cell takes at bytes said) ∙ ap cell (eqb-true at d here) ∙ held))
-      | inr apart ↦ leaves d ∙ cond-false _ _ _ apart ∙ held ]
+    elim (cases-bool (eqb at d)) [
+      | inl here ↦ absurd (never x (sym (accepted-blank size cell takes at bytes said) ∙ ap cell (eqb-true at d here) ∙ held))
+      | inr apart ↦ leaves d ∙ cond-false _ _ _ apart ∙ held
+    ]
 write-keeps size cell takes at bytes after (Err f) said leaves d x held = leaves d ∙ held
 
 pub kept-on : (before now after : ℕ → Cell) → Kept before now → Kept now after → Kept before after

@@ -4,7 +4,7 @@ ghost use mathlib.Core.List.{List};
 ghost use Prim.Native.Nat.{ℕ, _≤_};
 ghost use lib.ListN.{length};
 ghost use Rattle.std.specs.Results.{Cases};
-ghost use Rattle.stores.specs.Cells.{Cell, written};
+ghost use Rattle.stores.specs.Cells.{Cell, write-answer, written};
 ghost use Rattle.stores.specs.Writes.{Kept, Only};
 use crate::fault::StoreFault;
 use crate::store::Store;
@@ -18,7 +18,8 @@ pub struct Write<'a> {
 
 // One write: accepted, it leaves that cell written with these bytes and every other as it was; refused, it leaves all.
 pub fn write_one<S: Store>(store: &mut S, at: u32, bytes: &[u8]) -> Result<(), StoreFault>
-    ensures { λ r. ⌜ Cases r (λ _. Only (cell (now (store .entry))) (cell (now (store .exit))) at (now (bytes .entry))) (λ _. now (store .exit) ≡ now (store .entry)) ⌝ }
+    ensures value { λ r. ⌜ r ≡ write-answer (cells (now (store .entry))) (cell (now (store .entry))) (takes (now (store .entry))) at (now (bytes .entry)) ⌝ }
+    ensures leaves { λ r. ⌜ Cases r (λ _. Only (cell (now (store .entry))) (cell (now (store .exit))) at (now (bytes .entry))) (λ _. now (store .exit) ≡ now (store .entry)) ⌝ }
 {
     store.write(at, bytes)
 }

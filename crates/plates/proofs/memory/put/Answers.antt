@@ -19,7 +19,8 @@ returns c =
     record {
       flagged = search (needs, places);
       placed = ap (λ m. take m (drop (first + 1) (putMid (first + 1) ((first + 25) - (first + 1)) flagged (c .copy-from-slice .last .self)))) n
-        ∙ between-putMid (first + 1) ((first + 25) - (first + 1)) flagged (c .copy-from-slice .last .self) (first + 25) a (ap length same ∙ c .pre .long ∙ n) ∙ same;
+          ∙ between-putMid (first + 1) ((first + 25) - (first + 1)) flagged (c .copy-from-slice .last .self) (first + 25) a (ap length same ∙ c .pre .long ∙ n) ∙ same;
       front = λ k d h. search (needs, places);
       back = λ k d h. search (needs, places);
-      long = search (needs, places) }
+      long = search (needs, places);
+    }
