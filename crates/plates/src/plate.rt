@@ -52,7 +52,14 @@ pub impl<'a> Store for Plate<'a> as PlateStore {
         Ok(true)
     }
 
-    fn write(&mut self, at: u32, bytes: &[u8]) -> Result<(), StoreFault> {
+    // Accepted, it changes the 25 bytes of that cell; refused, no byte at all.
+    fn write(&mut self, at: u32, bytes: &[u8]) -> Result<(), StoreFault>
+        ensures value { λ r. ⌜ r ≡ write-answer (plate-cells (now (self .entry) .count) (now (now (self .entry) .memory))) (plate-cell (now (self .entry) .count) (now (now (self .entry) .memory))) (plate-takes (now (self .entry) .count) (now (now (self .entry) .memory))) at (now (bytes .entry)) ⌝ }
+        ensures after { λ r. ⌜ ((d : ℕ) → plate-cell (now (self .exit) .count) (now (now (self .exit) .memory)) d ≡ after-write r (plate-cell (now (self .entry) .count) (now (now (self .entry) .memory))) at (now (bytes .entry)) d) ⌝ }
+        ensures size { λ _. ⌜ plate-cells (now (self .exit) .count) (now (now (self .exit) .memory)) ≡ plate-cells (now (self .entry) .count) (now (now (self .entry) .memory)) ⌝ }
+        ensures same { λ r. ⌜ (isOk r ≡ false → now (self .exit) ≡ now (self .entry)) ⌝ }
+        ensures bytes { λ r. ⌜ Cases r (λ _. Plated (now (now (self .entry) .memory)) (now (now (self .exit) .memory)) at (now (bytes .entry))) (λ _. now (now (self .exit) .memory) ≡ now (now (self .entry) .memory)) ⌝ }
+    {
         if bytes.len() != CELL_LENGTH {
             return Err(StoreFault::Length);
         }

@@ -14,4 +14,5 @@ returns c =
       after = cell-after old new (c .args .self .now .count) (c .args .at) (c .args .bytes .now) (omega arith) (c .put .ensures);
       size = same-count old new (c .put .ensures .long) (c .args .self .now .count);
       same = search needs;
+      bytes = c .put .ensures;
     }
