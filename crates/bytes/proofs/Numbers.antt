@@ -1,17 +1,17 @@
 -- Numbers and their bytes, over any count of bytes: each determines the other.
 use mathlib.Core.Path.{_≡_, refl, sym, ap, _∙_}
-use mathlib.Core.List.{List, [], _∷_}
+use mathlib.Core.List.{List, [], _∷_, _++_}
 use mathlib.Core.Logic.{inl, inr}
 use Prim.Native.Nat.{ℕ, zero, suc, _+_, _*_, _/_, _%_, _^_, _<_, _≤_}
-use native.Mathlib.Nat.{add-mul, mul-assoc, zero-add, mul-comm, pow-suc, mod-lt, mod-one}
+use native.Mathlib.Nat.{add-mul, mul-assoc, zero-add, mul-comm, pow-suc, mod-lt, mod-one, div-div-eq-div-mul, mod-eq-of-lt}
 use native.Mathlib.Omega.{arith}
 use lib.Arith.{mod-mul}
 use lib.Dec.{ltb}
-use lib.ListN.{length, take, drop}
+use lib.ListN.{length, take, drop, set}
 use Rattle.std.specs.shelf.Digits.{number, numberAfter, Under}
 use Rattle.std.proofs.shelf.Digits.{numberAfter-append, number-lt, numberAfter-ge}
 use Rattle.std.proofs.shelf.Bits.{div-mul-add, mod-mul-add}
-use Rattle.std.proofs.shelf.Lists.{take-append-drop}
+use Rattle.std.proofs.shelf.Lists.{take-append-drop, append-assoc, drop-set}
 use Rattle.std.proofs.shelf.Tests.{cases-cond}
 use Rattle.std.specs.declared.option.Option.the-variants.{None, Some}
 use Rattle.bytes.specs.Numbers.{spelled, big-endian, in-64-bits}
@@ -86,3 +86,27 @@ spelled-big-endian (suc n) v =
 pub held-in-64-bits : (n x : ℕ) → Some n ≡ in-64-bits x → n ≡ x
 held-in-64-bits n x h =
     elim (cases-cond (ltb x (2 ^ 64)) (Some x) None (Some n) h) [ inl e ↦ cc | inr e ↦ cc ]
+
+-- A number that its bytes hold is what they spell.
+pub spelled-whole : (n v : ℕ) → v < 256 ^ n → spelled (big-endian n v) ≡ v
+spelled-whole n v h = spelled-big-endian n v ∙ mod-eq-of-lt h
+
+-- The last byte is what is left of a number modulo 256, and those before it are those of the rest.
+pub big-endian-push : (n v : ℕ) → big-endian (suc n) v ≡ big-endian n (v / 256) ++ (v % 256 ∷ [])
+big-endian-push zero v = ap (λ k. k % 256 ∷ []) (div-one v)
+  where
+    div-one : (v : ℕ) → v / 256 ^ 0 ≡ v
+    div-one v = omega arith
+big-endian-push (suc n) v =
+    let scale : v / 256 ^ suc n ≡ v / 256 / 256 ^ n = ap (λ k. v / k) (pow-suc 256 n ∙ mul-comm (256 ^ n) 256) ∙ sym (div-div-eq-div-mul v 256 (256 ^ n)) in
+    ap (λ k. k % 256 ∷ big-endian (suc n) v) scale ∙ ap (λ xs. (v / 256 / 256 ^ n) % 256 ∷ xs) (big-endian-push n v)
+
+-- One byte more, from the last on.
+pub big-endian-more : (i r : ℕ) (xs ys : List ℕ) → i < length xs → ys ≡ big-endian (i + 1) r ++ drop (i + 1) xs → ys ≡ big-endian i (r / 256) ++ drop i (set xs i (r % 256))
+big-endian-more i r xs ys l e =
+    let s : i + 1 ≡ suc i = omega arith in
+    e
+    ∙ ap (λ k. big-endian k r ++ drop (i + 1) xs) s
+    ∙ ap (λ zs. zs ++ drop (i + 1) xs) (big-endian-push i r)
+    ∙ append-assoc (big-endian i (r / 256)) (r % 256 ∷ []) (drop (i + 1) xs)
+    ∙ ap (λ z. big-endian i (r / 256) ++ z) (sym (drop-set xs i (r % 256) l))
