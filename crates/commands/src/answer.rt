@@ -24,7 +24,11 @@ fn read_cell<S: Store>(store: &S, cell: u32) -> Result<Reply, StoreFault>
 {
     let mut bytes = [0; CELL_LENGTH];
     let written = store.read(cell, &mut bytes)?;
-    if written { Ok(Reply::Holds { cell, bytes }) } else { Ok(Reply::Blank { cell }) }
+    if written {
+        Ok(Reply::Holds { cell, bytes })
+    } else {
+        Ok(Reply::Blank { cell })
+    }
 }
 
 // Asks the store; a command other than an accepted write leaves every cell as it was.

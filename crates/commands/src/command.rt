@@ -52,7 +52,9 @@ fn read_cell(fields: &mut Fields) -> Result<u32, LineFault>
     let field = fields.text()?;
     match decimal(field.text) {
         Some(cell) if cell <= 4294967295 => Ok(cell as u32),
-        _ => Err(LineFault { field: field.number }),
+        _ => Err(LineFault {
+            field: field.number,
+        }),
     }
 }
 
@@ -71,7 +73,9 @@ fn read_digits(heap: Global, field: &Field) -> Result<Vec<u8>, CommandFault>
 {
     match from_digits(heap, field.text)? {
         Some(bytes) => Ok(bytes),
-        None => Err(CommandFault::Line(LineFault { field: field.number })),
+        None => Err(CommandFault::Line(LineFault {
+            field: field.number,
+        })),
     }
 }
 
@@ -126,8 +130,12 @@ fn read_rest(heap: Global, verb: Verb, fields: &mut Fields) -> Result<Command, C
             let bytes = read_last_bytes(heap, fields)?;
             Ok(Command::Write { cell, bytes })
         }
-        Verb::Read => Ok(Command::Read { cell: read_last_cell(fields)? }),
-        Verb::Take => Ok(Command::Take { cell: read_last_cell(fields)? }),
+        Verb::Read => Ok(Command::Read {
+            cell: read_last_cell(fields)?,
+        }),
+        Verb::Take => Ok(Command::Take {
+            cell: read_last_cell(fields)?,
+        }),
     }
 }
 

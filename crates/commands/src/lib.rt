@@ -1,3 +1,3 @@
 // Commands to a store, a line each: reading them, and what the store answers.
-pub mod command;
 pub mod answer;
+pub mod command;

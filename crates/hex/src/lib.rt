@@ -34,5 +34,9 @@ pub fn from_digits(heap: Global, text: &[u8]) -> Result<Option<Vec<u8>>, AllocEr
         bytes.push(high * 16 + low)?;
         rest = &rest[2..];
     }
-    if rest.is_empty() { Ok(Some(bytes)) } else { Ok(None) }
+    if rest.is_empty() {
+        Ok(Some(bytes))
+    } else {
+        Ok(None)
+    }
 }

@@ -40,7 +40,20 @@ impl<S: Store, T: Store> Join<S, T> {
         Ok(Join { first, second })
     }
 
-    // The two stores.
+    // The two stores, to look at.
+    pub fn first(&self) -> &S
+        ensures { λ r. ⌜ now r ≡ now (self .entry) .first ⌝ }
+    {
+        &self.first
+    }
+
+    pub fn second(&self) -> &T
+        ensures { λ r. ⌜ now r ≡ now (self .entry) .second ⌝ }
+    {
+        &self.second
+    }
+
+    // The two stores, given back.
     pub fn into_parts(self) -> (S, T)
         ensures { λ r. ⌜ (r .0 ≡ self .first) × (r .1 ≡ self .second) ⌝ }
     {

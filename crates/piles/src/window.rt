@@ -49,7 +49,14 @@ impl<S: Store> Window<S> {
         })
     }
 
-    // The store below.
+    // The store below, to look at.
+    pub fn below(&self) -> &S
+        ensures { λ r. ⌜ now r ≡ now (self .entry) .below ⌝ }
+    {
+        &self.below
+    }
+
+    // The store below, given back.
     pub fn into_below(self) -> S
         ensures { λ r. ⌜ r ≡ self .below ⌝ }
     {

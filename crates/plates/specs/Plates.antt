@@ -2,9 +2,9 @@
 use Prim.Native.Nat.{ℕ, _+_, _*_, _/_, _<_, _≤_, min}
 use mathlib.Core.Path.{_≡_}
 use mathlib.Core.Bool.{Bool, cond, _&&_}
-use mathlib.Core.List.{List, _++_}
+use mathlib.Core.List.{List}
 use lib.Dec.{leb, ltb, eqb}
-use lib.ListN.{length, getD, take, drop, replicate}
+use lib.ListN.{length, getD, take, drop}
 use Rattle.std.specs.declared.result.Result.{Result}
 use Rattle.std.specs.declared.result.Result.the-variants.{Ok, Err}
 use Rattle.stores.specs.Cells.{Cell, blank, written}
@@ -40,7 +40,3 @@ pub record Plated (before after : List ℕ) (at : ℕ) (bytes : List ℕ) : Type
 -- Setting up and opening: SETTING for a count out of range, then SIZE where memory is too short.
 abbrev pub plate-fit : (count long : ℕ) → Result (Unit {0}) SetUpFault
 plate-fit count long = cond (leb 1 count && leb count largest-store) (cond (leb (25 * count) long) (Ok tt) (Err Size)) (Err Setting)
-
--- The first n bytes are zero, and no other is touched.
-abbrev pub zeroed : (n : ℕ) → List ℕ → List ℕ
-zeroed n memory = replicate n 0 ++ drop n memory

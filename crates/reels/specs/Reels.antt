@@ -4,7 +4,7 @@ use mathlib.Core.Path.{_≡_}
 use mathlib.Core.Bool.{Bool, cond, not, _&&_}
 use mathlib.Core.List.{List, _++_}
 use lib.Dec.{leb, ltb, eqb}
-use lib.ListN.{length, take, drop, replicate}
+use lib.ListN.{length, take, drop}
 use Rattle.std.specs.Options.{isSome, orOther}
 use Rattle.std.specs.declared.option.Option.{Option}
 use Rattle.std.specs.declared.option.Option.the-variants.{None, Some}
@@ -69,7 +69,3 @@ in-range n = leb 1 n && leb n largest-store
 -- Setting up and opening: SETTING for cells or lines out of range, then SIZE where memory is too short.
 abbrev pub reel-fit : (cells lines long : ℕ) → Result (Unit {0}) SetUpFault
 reel-fit cells lines long = cond (in-range cells && in-range lines) (cond (leb (4 + 28 * lines) long) (Ok tt) (Err Size)) (Err Setting)
-
--- The first n bytes are zero, and no other is touched.
-abbrev pub zeroed : (n : ℕ) → List ℕ → List ℕ
-zeroed n memory = replicate n 0 ++ drop n memory
