@@ -5,6 +5,9 @@ mod print;
 use commands::answer::answer;
 use commands::command::Command;
 use commands::command::CommandFault;
+use console::LONGEST_INPUT;
+use console::print_refusal;
+use console::read_batch;
 use lines::input::Lines;
 use pile::Pile;
 use pile::ReelSize;
@@ -17,7 +20,6 @@ use piles::window::WindowStore;
 use plates::plate::Plate;
 use plates::plate::PlateStore;
 use print::print_bytes;
-use print::print_refusal;
 use print::print_reply;
 use print::show;
 use reels::reel::Reel;
@@ -26,14 +28,11 @@ use std::alloc::AllocError;
 use std::alloc::Global;
 use std::io;
 use std::io::BufWriter;
-use std::io::Read;
 use std::io::Write;
 use stores::fault::SetUpFault;
 use stores::store::Store;
 
-// The longest input and the longest line that are looked at.
-const LONGEST_INPUT: usize = 65536;
-
+// The longest line that is looked at.
 const LONGEST_LINE: usize = 80;
 
 // Memory as it may have been left by somebody else.
@@ -253,16 +252,12 @@ fn on_deep(
 
 fn main(rt: LibcRuntime) -> io::Result<()> {
     let heap = rt.alloc();
-    let mut input = Vec::new(heap);
     let mut out = BufWriter::new(rt.stdout());
-    rt.stdin()
-        .take(LONGEST_INPUT as u64 + 1)
-        .read_to_end(&mut input)?;
-    if input.len() > LONGEST_INPUT {
+    let Some(batch) = read_batch(heap, rt.stdin())? else {
         print_refusal(&mut out, 0, 15, Some(0))?;
         return out.flush();
-    }
-    let mut lines = Lines::new(input.as_slice());
+    };
+    let mut lines = Lines::new(batch.as_slice());
     if let Some(line) = lines.next_line() {
         match read_pile(line) {
             Ok(Pile::Plate { cells }) => on_plate(heap, &mut out, &mut lines, cells)?,

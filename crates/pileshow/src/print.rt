@@ -1,21 +1,9 @@
-// Printing: refusals, replies, cells and bytes.
+// Printing: replies, cells and bytes.
 use commands::answer::Reply;
 use std::io;
 use std::io::Write;
 use stores::store::CELL_LENGTH;
 use stores::store::Store;
-
-pub fn print_refusal(
-    out: &mut impl Write,
-    line: usize,
-    number: u32,
-    detail: Option<u64>,
-) -> io::Result<()> {
-    match detail {
-        Some(detail) => writeln!(out, "no {line} {number} {detail}"),
-        None => writeln!(out, "no {line} {number} -"),
-    }
-}
 
 fn print_hex(out: &mut impl Write, bytes: &[u8]) -> io::Result<()> {
     for byte in bytes {

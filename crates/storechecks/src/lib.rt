@@ -3,3 +3,5 @@
 mod pile_tests;
 #[cfg(test)]
 mod plate_tests;
+#[cfg(test)]
+mod reel_tests;
