@@ -12,7 +12,7 @@ import random
 import subprocess
 import sys
 from collections import Counter
-from typing import Callable, List, NamedTuple, Tuple
+from typing import Any, Callable, List, NamedTuple, Tuple
 
 sys.dont_write_bytecode = True  # leave no __pycache__ beside the sources
 
@@ -544,14 +544,8 @@ def report(what: str, seed: int, number: int, data: bytes, expected: bytes, foun
     print(f"program ({len(found)} bytes): {found!r}")
 
 
-def same_run(program: str, seed: int, number: int, cover: Cover) -> bool:
-    """Compare one run; print it where it fails."""
-    data = input_of_run(seed, number)
-    peer = paths.Program()
-    expected = paths.run_on(peer, data)
-    if broken_promise(peer, expected):
-        report("the peer breaks a promise of the rules", seed, number, data, expected, b"")
-        return False
+def agrees(program: str, seed: int, number: int, data: bytes, expected: bytes) -> bool:
+    """Whether the program ends well and writes what the peer does; print the run where it does not."""
     try:
         ended = subprocess.run([program], input=data, capture_output=True, timeout=PROGRAM_SECONDS, check=False)
     except subprocess.TimeoutExpired:
@@ -564,25 +558,35 @@ def same_run(program: str, seed: int, number: int, cover: Cover) -> bool:
         wrongs.append(f"the program ended with status {ended.returncode}, standard error {ended.stderr!r}")
     if wrongs:
         report(" and ".join(wrongs), seed, number, data, expected, ended.stdout)
+    return not wrongs
+
+
+def same_run(program: str, seed: int, number: int, cover: Cover) -> bool:
+    """Compare one run; print it where it fails."""
+    data = input_of_run(seed, number)
+    peer = paths.Program()
+    expected = paths.run_on(peer, data)
+    if broken_promise(peer, expected):
+        report("the peer breaks a promise of the rules", seed, number, data, expected, b"")
+        return False
+    if not agrees(program, seed, number, data, expected):
         return False
     cover.add(peer, expected)
     return True
 
 
-def main() -> int:
-    """Check the peer, compare all runs, and give the status."""
-    parser = argparse.ArgumentParser(description="Compare a path program with its peer on random inputs.")
+def compare_all(runs: int, failed: List[str], cover: Any, compare_run: Callable[[str, int, int, Any], bool]) -> int:
+    """Compare all runs that the command line asks for, so many unless it says another number, and give the status."""
+    parser = argparse.ArgumentParser(description="Compare a program with its peer on random inputs.")
     parser.add_argument("program", metavar="PROGRAM")
-    parser.add_argument("--runs", type=int, default=3000, metavar="N")
+    parser.add_argument("--runs", type=int, default=runs, metavar="N")
     parser.add_argument("--seed", type=int, default=1, metavar="K")
     options = parser.parse_args()
-    failed = failed_examples()
     if failed:
         print(f"the peer fails examples of the rules: {', '.join(failed)}")
         return 1
-    cover = Cover()
     for number in range(options.runs):
-        if not same_run(options.program, options.seed, number, cover):
+        if not compare_run(options.program, options.seed, number, cover):
             return 1
     print(cover.summary())
     missing = cover.missing_cover()
@@ -593,4 +597,4 @@ def main() -> int:
 
 
 if __name__ == "__main__":
-    sys.exit(main())
+    sys.exit(compare_all(3000, failed_examples(), Cover(), same_run))

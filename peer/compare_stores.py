@@ -8,9 +8,7 @@ with status 0, and the inputs covered what `missing_cover` asks for; otherwise i
 has the same input.
 """
 
-import argparse
 import random
-import subprocess
 import sys
 from collections import Counter
 from typing import Dict, List, NamedTuple, Optional, Tuple
@@ -21,11 +19,11 @@ import paths  # noqa: E402
 import stores  # noqa: E402
 from compare import (  # noqa: E402
     NO_NUMBERS,
-    PROGRAM_SECONDS,
     Fields,
     Lines,
+    agrees,
+    compare_all,
     ending,
-    first_different_line,
     long_line,
     replaced,
     report,
@@ -406,45 +404,11 @@ def same_run(program: str, seed: int, number: int, cover: Cover) -> bool:
     if broken_promise(expected):
         report("the peer breaks a promise of the rules", seed, number, data, expected, b"")
         return False
-    try:
-        ended = subprocess.run([program], input=data, capture_output=True, timeout=PROGRAM_SECONDS, check=False)
-    except subprocess.TimeoutExpired:
-        report(f"the program did not end in {PROGRAM_SECONDS} seconds", seed, number, data, expected, b"")
-        return False
-    wrongs = []
-    if ended.stdout != expected:
-        wrongs.append(f"the outputs differ from output line {first_different_line(expected, ended.stdout)} on")
-    if ended.returncode != 0:
-        wrongs.append(f"the program ended with status {ended.returncode}, standard error {ended.stderr!r}")
-    if wrongs:
-        report(" and ".join(wrongs), seed, number, data, expected, ended.stdout)
+    if not agrees(program, seed, number, data, expected):
         return False
     cover.add(data, pile_at_end, expected)
     return True
 
 
-def main() -> int:
-    """Check the peer, compare all runs, and give the status."""
-    parser = argparse.ArgumentParser(description="Compare a pile program with its peer on random inputs.")
-    parser.add_argument("program", metavar="PROGRAM")
-    parser.add_argument("--runs", type=int, default=2000, metavar="N")
-    parser.add_argument("--seed", type=int, default=1, metavar="K")
-    options = parser.parse_args()
-    failed = failed_examples()
-    if failed:
-        print(f"the peer fails examples worked out by hand: {', '.join(failed)}")
-        return 1
-    cover = Cover()
-    for number in range(options.runs):
-        if not same_run(options.program, options.seed, number, cover):
-            return 1
-    print(cover.summary())
-    missing = cover.missing_cover()
-    if missing:
-        print(f"the inputs did not cover: {', '.join(missing)}")
-        return 1
-    return 0
-
-
 if __name__ == "__main__":
-    sys.exit(main())
+    sys.exit(compare_all(2000, failed_examples(), Cover(), same_run))
