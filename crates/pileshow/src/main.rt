@@ -1,6 +1,7 @@
 // Piles stores as the first line asks, puts the commands of the other lines to the topmost, and shows every layer.
 mod pile;
 mod print;
+mod stop;
 
 use commands::answer::answer;
 use commands::command::Command;
@@ -29,7 +30,12 @@ use std::alloc::Global;
 use std::io;
 use std::io::BufWriter;
 use std::io::Write;
-use stores::fault::SetUpFault;
+use stop::Stop;
+use stop::StopFromAlloc;
+use stop::StopFromIo;
+use stop::StopFromJoin;
+use stop::StopFromSetUp;
+use stop::StopFromWindow;
 use stores::store::Store;
 
 // The longest line that is looked at.
@@ -84,10 +90,6 @@ fn play(
     Ok(())
 }
 
-fn refuse(out: &mut impl Write, fault: SetUpFault) -> io::Result<()> {
-    print_refusal(out, 1, fault.number(), None)
-}
-
 // The bytes of a plate and of a reel.
 fn plate_bytes(cells: u32) -> u32 {
     cells.saturating_mul(25)
@@ -97,16 +99,15 @@ fn reel_bytes(reel: ReelSize) -> u32 {
     reel.lines.saturating_mul(28).saturating_add(4)
 }
 
-fn on_plate(heap: Global, out: &mut impl Write, lines: &mut Lines, cells: u32) -> io::Result<()> {
+fn on_plate(heap: Global, out: &mut impl Write, lines: &mut Lines, cells: u32) -> Result<(), Stop> {
     let mut memory = lent(heap, plate_bytes(cells))?;
-    match Plate::set_up(memory.as_mut_slice(), cells) {
-        Ok(mut plate) => {
-            play(heap, out, &mut plate, lines)?;
-            show(out, "plate", &plate)?;
-        }
-        Err(fault) => return refuse(out, fault),
+    {
+        let mut plate = Plate::set_up(memory.as_mut_slice(), cells)?;
+        play(heap, out, &mut plate, lines)?;
+        show(out, "plate", &plate)?;
     }
-    print_bytes(out, memory.as_slice())
+    print_bytes(out, memory.as_slice())?;
+    Ok(())
 }
 
 fn on_reel(
@@ -114,16 +115,15 @@ fn on_reel(
     out: &mut impl Write,
     lines: &mut Lines,
     size: ReelSize,
-) -> io::Result<()> {
+) -> Result<(), Stop> {
     let mut memory = lent(heap, reel_bytes(size))?;
-    match Reel::set_up(memory.as_mut_slice(), size.cells, size.lines) {
-        Ok(mut reel) => {
-            play(heap, out, &mut reel, lines)?;
-            show(out, "reel", &reel)?;
-        }
-        Err(fault) => return refuse(out, fault),
+    {
+        let mut reel = Reel::set_up(memory.as_mut_slice(), size.cells, size.lines)?;
+        play(heap, out, &mut reel, lines)?;
+        show(out, "reel", &reel)?;
     }
-    print_bytes(out, memory.as_slice())
+    print_bytes(out, memory.as_slice())?;
+    Ok(())
 }
 
 fn on_window(
@@ -132,20 +132,17 @@ fn on_window(
     lines: &mut Lines,
     cells: u32,
     run: Run,
-) -> io::Result<()> {
+) -> Result<(), Stop> {
     let mut memory = lent(heap, plate_bytes(cells))?;
-    match Plate::set_up(memory.as_mut_slice(), cells) {
-        Ok(plate) => match Window::new(plate, run.first, run.count) {
-            Ok(mut window) => {
-                play(heap, out, &mut window, lines)?;
-                show(out, "window", &window)?;
-                show(out, "plate", window.below())?;
-            }
-            Err(refused) => return refuse(out, refused.fault),
-        },
-        Err(fault) => return refuse(out, fault),
+    {
+        let plate = Plate::set_up(memory.as_mut_slice(), cells)?;
+        let mut window = Window::new(plate, run.first, run.count)?;
+        play(heap, out, &mut window, lines)?;
+        show(out, "window", &window)?;
+        show(out, "plate", window.below())?;
     }
-    print_bytes(out, memory.as_slice())
+    print_bytes(out, memory.as_slice())?;
+    Ok(())
 }
 
 fn on_join(
@@ -154,27 +151,21 @@ fn on_join(
     lines: &mut Lines,
     cells: u32,
     size: ReelSize,
-) -> io::Result<()> {
+) -> Result<(), Stop> {
     let mut first = lent(heap, plate_bytes(cells))?;
     let mut second = lent(heap, reel_bytes(size))?;
-    match (
-        Plate::set_up(first.as_mut_slice(), cells),
-        Reel::set_up(second.as_mut_slice(), size.cells, size.lines),
-    ) {
-        (Ok(plate), Ok(reel)) => match Join::new(plate, reel) {
-            Ok(mut join) => {
-                play(heap, out, &mut join, lines)?;
-                show(out, "join", &join)?;
-                show(out, "plate", join.first())?;
-                show(out, "reel", join.second())?;
-            }
-            Err(refused) => return refuse(out, refused.fault),
-        },
-        (Err(fault), _) => return refuse(out, fault),
-        (_, Err(fault)) => return refuse(out, fault),
+    {
+        let plate = Plate::set_up(first.as_mut_slice(), cells)?;
+        let reel = Reel::set_up(second.as_mut_slice(), size.cells, size.lines)?;
+        let mut join = Join::new(plate, reel)?;
+        play(heap, out, &mut join, lines)?;
+        show(out, "join", &join)?;
+        show(out, "plate", join.first())?;
+        show(out, "reel", join.second())?;
     }
     print_bytes(out, first.as_slice())?;
-    print_bytes(out, second.as_slice())
+    print_bytes(out, second.as_slice())?;
+    Ok(())
 }
 
 fn on_shown(
@@ -184,31 +175,23 @@ fn on_shown(
     cells: u32,
     size: ReelSize,
     run: Run,
-) -> io::Result<()> {
+) -> Result<(), Stop> {
     let mut first = lent(heap, plate_bytes(cells))?;
     let mut second = lent(heap, reel_bytes(size))?;
-    match (
-        Plate::set_up(first.as_mut_slice(), cells),
-        Reel::set_up(second.as_mut_slice(), size.cells, size.lines),
-    ) {
-        (Ok(plate), Ok(reel)) => match Join::new(plate, reel) {
-            Ok(join) => match Window::new(join, run.first, run.count) {
-                Ok(mut window) => {
-                    play(heap, out, &mut window, lines)?;
-                    show(out, "window", &window)?;
-                    show(out, "join", window.below())?;
-                    show(out, "plate", window.below().first())?;
-                    show(out, "reel", window.below().second())?;
-                }
-                Err(refused) => return refuse(out, refused.fault),
-            },
-            Err(refused) => return refuse(out, refused.fault),
-        },
-        (Err(fault), _) => return refuse(out, fault),
-        (_, Err(fault)) => return refuse(out, fault),
+    {
+        let plate = Plate::set_up(first.as_mut_slice(), cells)?;
+        let reel = Reel::set_up(second.as_mut_slice(), size.cells, size.lines)?;
+        let join = Join::new(plate, reel)?;
+        let mut window = Window::new(join, run.first, run.count)?;
+        play(heap, out, &mut window, lines)?;
+        show(out, "window", &window)?;
+        show(out, "join", window.below())?;
+        show(out, "plate", window.below().first())?;
+        show(out, "reel", window.below().second())?;
     }
     print_bytes(out, first.as_slice())?;
-    print_bytes(out, second.as_slice())
+    print_bytes(out, second.as_slice())?;
+    Ok(())
 }
 
 fn on_deep(
@@ -219,35 +202,41 @@ fn on_deep(
     inner: Run,
     size: ReelSize,
     run: Run,
-) -> io::Result<()> {
+) -> Result<(), Stop> {
     let mut first = lent(heap, plate_bytes(cells))?;
     let mut second = lent(heap, reel_bytes(size))?;
-    match (
-        Plate::set_up(first.as_mut_slice(), cells),
-        Reel::set_up(second.as_mut_slice(), size.cells, size.lines),
-    ) {
-        (Ok(plate), Ok(reel)) => match Window::new(plate, inner.first, inner.count) {
-            Ok(front) => match Join::new(front, reel) {
-                Ok(join) => match Window::new(join, run.first, run.count) {
-                    Ok(mut window) => {
-                        play(heap, out, &mut window, lines)?;
-                        show(out, "window", &window)?;
-                        show(out, "join", window.below())?;
-                        show(out, "window", window.below().first())?;
-                        show(out, "plate", window.below().first().below())?;
-                        show(out, "reel", window.below().second())?;
-                    }
-                    Err(refused) => return refuse(out, refused.fault),
-                },
-                Err(refused) => return refuse(out, refused.fault),
-            },
-            Err(refused) => return refuse(out, refused.fault),
-        },
-        (Err(fault), _) => return refuse(out, fault),
-        (_, Err(fault)) => return refuse(out, fault),
+    {
+        let plate = Plate::set_up(first.as_mut_slice(), cells)?;
+        let reel = Reel::set_up(second.as_mut_slice(), size.cells, size.lines)?;
+        let front = Window::new(plate, inner.first, inner.count)?;
+        let join = Join::new(front, reel)?;
+        let mut window = Window::new(join, run.first, run.count)?;
+        play(heap, out, &mut window, lines)?;
+        show(out, "window", &window)?;
+        show(out, "join", window.below())?;
+        show(out, "window", window.below().first())?;
+        show(out, "plate", window.below().first().below())?;
+        show(out, "reel", window.below().second())?;
     }
     print_bytes(out, first.as_slice())?;
-    print_bytes(out, second.as_slice())
+    print_bytes(out, second.as_slice())?;
+    Ok(())
+}
+
+fn on_pile(heap: Global, out: &mut impl Write, lines: &mut Lines, pile: Pile) -> Result<(), Stop> {
+    match pile {
+        Pile::Plate { cells } => on_plate(heap, out, lines, cells),
+        Pile::Reel { reel } => on_reel(heap, out, lines, reel),
+        Pile::Window { cells, run } => on_window(heap, out, lines, cells, run),
+        Pile::Join { cells, reel } => on_join(heap, out, lines, cells, reel),
+        Pile::Shown { cells, reel, run } => on_shown(heap, out, lines, cells, reel, run),
+        Pile::Deep {
+            cells,
+            inner,
+            reel,
+            run,
+        } => on_deep(heap, out, lines, cells, inner, reel, run),
+    }
 }
 
 fn main(rt: LibcRuntime) -> io::Result<()> {
@@ -260,26 +249,11 @@ fn main(rt: LibcRuntime) -> io::Result<()> {
     let mut lines = Lines::new(batch.as_slice());
     if let Some(line) = lines.next_line() {
         match read_pile(line) {
-            Ok(Pile::Plate { cells }) => on_plate(heap, &mut out, &mut lines, cells)?,
-            Ok(Pile::Reel { reel }) => on_reel(heap, &mut out, &mut lines, reel)?,
-            Ok(Pile::Window { cells, run }) => on_window(heap, &mut out, &mut lines, cells, run)?,
-            Ok(Pile::Join { cells, reel }) => on_join(heap, &mut out, &mut lines, cells, reel)?,
-            Ok(Pile::Shown { cells, reel, run }) => on_shown(
-                heap,
-                &mut out,
-                &mut lines,
-                cells,
-                reel,
-                run,
-            )?,
-            Ok(
-                Pile::Deep {
-                    cells,
-                    inner,
-                    reel,
-                    run,
-                },
-            ) => on_deep(heap, &mut out, &mut lines, cells, inner, reel, run)?,
+            Ok(pile) => match on_pile(heap, &mut out, &mut lines, pile) {
+                Ok(()) => {}
+                Err(Stop::Refused(fault)) => print_refusal(&mut out, 1, fault.number(), None)?,
+                Err(Stop::Failed(error)) => return Err(error),
+            },
             Err(fault) => print_refusal(&mut out, 1, fault.number(), fault.detail())?,
         }
     }
