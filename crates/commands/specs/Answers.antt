@@ -8,7 +8,8 @@ use Rattle.stores.specs.Cells.{Cell, cell-length, content, read-answer, write-a
 use Rattle.stores.specs.declared.fault.StoreFault.{StoreFault}
 use Rattle.commands.specs.declared.answer.Reply.{Reply}
 use Rattle.commands.specs.declared.answer.Reply.the-variants.{Written, Holds, Blank, Free, Taken}
-use Rattle.commands.specs.Commands.{Asked, writes, reads, takes, then}
+use Rattle.lines.specs.Fields.{then}
+use Rattle.commands.specs.Commands.{Asked, writes, reads, takes}
 
 abbrev pub read-reply : (size : ℕ) (cell : ℕ → Cell) (at : ℕ) → Result Reply StoreFault
 read-reply size cell at =

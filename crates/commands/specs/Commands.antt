@@ -13,7 +13,7 @@ use Rattle.std.specs.Options.{okOr}
 use Rattle.std.specs.shelf.Text.{sameBytes}
 use Rattle.hex.specs.Hex.{bytes-of}
 use Rattle.lines.specs.declared.fault.LineFault.{LineFault}
-use Rattle.lines.specs.Fields.{wrong-field, text-field, line-end}
+use Rattle.lines.specs.Fields.{wrong-field, text-field, line-end, then}
 use Rattle.lines.specs.Readers.{past-first, read-on}
 use Rattle.lines.specs.Text.{fields-of, number-of}
 use Rattle.commands.specs.declared.command.Command.{Command}
@@ -35,10 +35,6 @@ in-32-bits (Some n) = cond (leb n 4294967295) (Some n) None
 abbrev pub cell-field : (n : ℕ) (ts : List (List ℕ)) → Result ℕ LineFault
 cell-field n [] = Err (wrong-field n)
 cell-field n (t ∷ ts) = okOr (in-32-bits (number-of t)) (wrong-field n)
-
-abbrev pub then : {A B E : Type 0} → Result A E → (A → Result B E) → Result B E
-then (Ok x) f = f x
-then (Err e) f = Err e
 
 -- the bytes that a field's digits write
 abbrev pub digits-in : ℕ × List ℕ → Result (List ℕ) LineFault

@@ -34,3 +34,8 @@ number-field n (t ∷ ts) = okOr (number-of t) (wrong-field n)
 abbrev pub line-end : ℕ → List (List ℕ) → Result (Unit {0}) LineFault
 line-end n [] = Ok tt
 line-end n (t ∷ ts) = Err (wrong-field n)
+
+-- what is read on after a field that is right; the first that is not is the answer
+abbrev pub then : {A B E : Type 0} → Result A E → (A → Result B E) → Result B E
+then (Ok x) f = f x
+then (Err e) f = Err e

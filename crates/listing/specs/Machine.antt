@@ -16,7 +16,7 @@ use Rattle.keys.specs.Codes.{code-text, padded}
 use Rattle.keys.specs.Sheets.{largest-sheet, sheet-bytes}
 use Rattle.keys.specs.declared.fault.KeyFault.the-variants.{Inadmissible}
 use Rattle.lines.specs.declared.fault.LineFault.{LineFault}
-use Rattle.lines.specs.Fields.{word-field, text-field, number-field, line-end}
+use Rattle.lines.specs.Fields.{word-field, text-field, number-field, line-end, then}
 use Rattle.lines.specs.Readers.{past-first, read-on}
 use Rattle.lines.specs.Text.{fields-of}
 use Rattle.paths.specs.Rules.{settings-of}
@@ -38,7 +38,7 @@ use Rattle.listing.specs.declared.state.State.the-variants.{Waiting, Collectin
 use Rattle.listing.specs.declared.wish.Kind.{Kind}
 use Rattle.listing.specs.declared.wish.Kind.the-variants.{Num, Code}
 use Rattle.listing.specs.declared.wish.Wish.{Wish}
-use Rattle.listing.specs.Wishes.{then, number-then, set-line}
+use Rattle.listing.specs.Wishes.{number-then, set-line}
 
 -- What is waited for: settings; the coefficients of the next level, behind those so far; keys.
 pub data Phase : Type 0 where

@@ -11,7 +11,7 @@ use Rattle.std.specs.declared.result.Result.the-variants.{Ok, Err}
 use Rattle.std.specs.Options.{okOr}
 use Rattle.std.specs.shelf.Text.{sameBytes}
 use Rattle.lines.specs.declared.fault.LineFault.{LineFault}
-use Rattle.lines.specs.Fields.{wrong-field, word-field, number-field, line-end}
+use Rattle.lines.specs.Fields.{wrong-field, word-field, number-field, line-end, then}
 use Rattle.lines.specs.Readers.{past-first, read-on}
 use Rattle.lines.specs.Text.{fields-of}
 use Rattle.trees.specs.declared.settings.Scheme.{Scheme}
@@ -19,11 +19,6 @@ use Rattle.trees.specs.declared.settings.Scheme.the-variants.{Thin, Fat, Trie}
 use Rattle.listing.specs.declared.wish.Kind.{Kind}
 use Rattle.listing.specs.declared.wish.Kind.the-variants.{Num, Code}
 use Rattle.listing.specs.declared.wish.Wish.{Wish}
-
--- What is read on after a field that is right; the first that is not is the answer.
-abbrev pub then : {A B E : Type 0} → Result A E → (A → Result B E) → Result B E
-then (Ok x) f = f x
-then (Err e) f = Err e
 
 abbrev pub kind-of : List ℕ → Option Kind
 kind-of t = cond (sameBytes t (codes "num")) (Some Num) (cond (sameBytes t (codes "code")) (Some Code) None)
