@@ -1,4 +1,6 @@
 // What the programs share: reading a batch from standard input, and printing refusals and bytes.
+#![tactic(auto)]
+
 use std::alloc::Global;
 use std::io;
 use std::io::{Read, Write};

@@ -1,4 +1,6 @@
 // Bytes written as hexadecimal digits of either case, two for each byte.
+#![tactic(auto)]
+
 ghost use Rattle.std.specs.Prelude.{◌≡◌, ◌<◌, IfSome, IfOk, vec_items};
 ghost use Rattle.std.specs.Option.{option_map};
 ghost use Rattle.hex_digits.specs.Hex.{nibble_of, bytes_of};

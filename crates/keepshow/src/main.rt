@@ -1,4 +1,6 @@
 // Sets a keep up in a memory, or opens what the memory holds, and puts the commands of the other lines to it.
+#![tactic(auto)]
+
 mod start;
 
 use blocks::keep::Blocks;

@@ -1,4 +1,6 @@
 // Keys of an archive: 12 bytes that name one drawing, in two kinds, and what they are hashed to.
+#![tactic(auto)]
+
 pub mod code;
 pub mod code_kind;
 pub mod fault;

@@ -1,4 +1,6 @@
 // Numbers in bytes, highest byte first: the layout of every number of several bytes in an archive.
+#![tactic(auto)]
+
 ghost use Rattle.std.specs.Prelude.{◌≡◌, length};
 ghost use Rattle.octets.specs.Numbers.{big_endian, spelled, in_64_bits};
 

@@ -1,4 +1,6 @@
 // Prints, for settings and keys on standard input, every cell in which each key's entry may ever stand.
+#![tactic(auto)]
+
 use console::{LONGEST_INPUT, print_refusal, read_batch};
 use lines::input::Lines;
 use listing::fault::Fault;

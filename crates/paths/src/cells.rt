@@ -11,7 +11,7 @@ pub fn path_cells<P: PathRule>(
     rule: &P,
     key: &[u8; 12],
 ) -> Result<Vec<u32>, AllocError>
-    ensures { IfOk result (λ v. PathPromise settings extent depth width path rule.now key.now v.items) }
+    ensures { IfOk result (λ v. PathPromise P.settings P.extent P.depth P.width P.path rule.now key.now v.items) }
 {
     let mut cells = Vec::new(heap);
     let mut at = rule.start(key);

@@ -23,7 +23,7 @@ pub struct NoWindow<S> {
 impl<S: Store> Window<S> {
     // So many cells from one on; 1 SETTING for none, 3 SIZE past the end, and the store back.
     pub fn new(below: S, first: u32, count: u32) -> Result<Window<S>, NoWindow<S>>
-        ensures { MatchResult result (λ w. (window_fit first count (cells below) ≡ Ok tt) × (w.below ≡ below) × (w.first ≡ first) × (w.count ≡ count)) (λ e. (window_fit first count (cells below) ≡ Err e.fault) × (e.below ≡ below)) }
+        ensures { MatchResult result (λ w. (window_fit first count (S.cells below) ≡ Ok tt) × (w.below ≡ below) × (w.first ≡ first) × (w.count ≡ count)) (λ e. (window_fit first count (S.cells below) ≡ Err e.fault) × (e.below ≡ below)) }
     {
         let size = below.size();
         if count == 0 {

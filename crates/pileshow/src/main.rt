@@ -1,4 +1,6 @@
 // Piles stores as the first line asks, puts the commands of the other lines to the topmost, and shows every layer.
+#![tactic(auto)]
+
 mod pile;
 mod print;
 mod stop;

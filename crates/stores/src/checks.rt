@@ -15,16 +15,16 @@ pub struct Write<'a> {
 
 // One write: accepted, it leaves that cell written with these bytes and every other as it was; refused, it leaves all.
 pub fn write_one<S: Store>(store: &mut S, at: u32, bytes: &[u8]) -> Result<(), StoreFault>
-    ensures value { result ≡ write_answer (cells store.old) (cell store.old) (takes store.old) at bytes.now }
-    ensures leaves { MatchResult result (λ _. Only (cell store.old) (cell store.new) at bytes.now) (λ _. store.new ≡ store.old) }
+    ensures value { result ≡ write_answer (S.cells store.old) (S.cell store.old) (S.takes store.old) at bytes.now }
+    ensures leaves { MatchResult result (λ _. Only (S.cell store.old) (S.cell store.new) at bytes.now) (λ _. store.new ≡ store.old) }
 {
     store.write(at, bytes)
 }
 
 // Any list of writes, accepted or not, and how many were: a written cell never changes again.
 pub fn write_each<S: Store>(store: &mut S, writes: &[Write]) -> usize
-    ensures kept { Kept (cell store.old) (cell store.new) }
-    ensures size { cells store.new ≡ cells store.old }
+    ensures kept { Kept (S.cell store.old) (S.cell store.new) }
+    ensures size { S.cells store.new ≡ S.cells store.old }
     ensures bound { result ≤ length writes.now }
 {
     let mut accepted = 0;

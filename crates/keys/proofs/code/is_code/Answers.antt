@@ -16,7 +16,7 @@ pub loop-place-preserved : goal.loop-place-preserved
 loop-place-preserved c =
     let all = c.args.bytes.now in
     let opened = at_drop_more (code_from c.loop-place.ended c.loop-place.place) all c.loop-place.place 0 (omega arith) in
-    sym (goes_from c.loop-place.ended c.loop-place.place (get_or all c.loop-place.place 0) (drop (c.loop-place.place + 1) all) c.in-Some.ended-now c.in-Some.ensures)
+    sym (goes_from c.loop-place.ended c.loop-place.place (get_or all c.loop-place.place 0) (drop (c.loop-place.place + 1) all) c.in-Some.ended_now c.in-Some.ensures)
     ∙ sym opened ∙ c.loop-place.invariant
 
 pub returns : goal.returns

@@ -6,13 +6,13 @@ use Rattle.octets.specs.Numbers.{spelled}
 use Rattle.octets.proofs.Places.{below_more, below_wider}
 use Rattle.octets.proofs.memory.number_from.Goals as goal
 
-pub overflow-mul-number : goal.overflow-mul-number
-overflow-mul-number c =
+pub overflow_mul-number : goal.overflow_mul-number
+overflow_mul-number c =
     let low : c.loop-b.number < 2 ^ (7 * 8) = below_wider c.loop-b.number c.loop-b.b-index 7 (omega arith) c.loop-b.invariant.1 in
     search rules
 
-pub overflow-add-number : goal.overflow-add-number
-overflow-add-number c =
+pub overflow_add-number : goal.overflow_add-number
+overflow_add-number c =
     let low : c.loop-b.number < 2 ^ (7 * 8) = below_wider c.loop-b.number c.loop-b.b-index 7 (omega arith) c.loop-b.invariant.1 in
     search rules
 

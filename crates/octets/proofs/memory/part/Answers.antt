@@ -1,5 +1,5 @@
 -- The part that there is.
-use Rattle.std.proofs.Common.{◌≡◌, ◌+◌, ◌-◌, min, take, drop, ap, ◌∙◌, arith, length-take}
+use Rattle.std.proofs.Common.{◌≡◌, ◌+◌, ◌-◌, take, drop, ap, ◌∙◌, arith, length-take}
 use Rattle.octets.proofs.Places.{part_there}
 use Rattle.octets.proofs.memory.part.Goals as goal
 

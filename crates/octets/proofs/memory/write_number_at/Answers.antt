@@ -16,5 +16,5 @@ returns c =
     record {
       fits = sym (le-leb (at + n) (length memory) (omega arith));
       after =
-          put_part at n ((at + n) - at) memory c.write-number.new.bytes (big_endian n c.args.value) (c.write-number.ensures ∙ ap (λ (k : ℕ). big_endian k c.args.value) long) wide (length-big_endian n c.args.value);
+          put_part at n ((at + n) - at) memory c.write_number.new.bytes (big_endian n c.args.value) (c.write_number.ensures ∙ ap (λ (k : ℕ). big_endian k c.args.value) long) wide (length-big_endian n c.args.value);
     }

@@ -16,7 +16,7 @@ loop-j-preserved g c =
     let low : level < g.P.PathRule.depth rule = omega arith in
     let inside : j < width = omega arith in
     let place : level * width + j < length (g.P.PathRule.path rule c.args.key.now) = omega (arith, g.P.PathRule.laws.long rule c.args.key.now, mul-add-lt level width j (g.P.PathRule.depth rule) low inside) in
-    pushed (c.cell.result ∷ []) c.loop-j.invariant c.in-ok-push.was c.push.ensures.items
+    pushed (c.cell.result ∷ []) c.loop-j.invariant c.in_ok-push.was c.push.ensures.items
     ∙ front_more (g.P.PathRule.path rule c.args.key.now) (level * width + j) (level * width + (j + 1)) c.cell.result place (omega arith)
     (c.cell.ensures ∙ (c.in-Some.ensures.down c.args.key.now level low c.loop-level.invariant.0).1 j inside)
 

@@ -14,7 +14,7 @@ told cs wanted wanted' e = ap (λ n. coefficient_answer (lowest_unfit 0 n cs)) e
 pub returns-then-level-coefficients : goal.returns-then-level-coefficients
 returns-then-level-coefficients c =
     let cs = c.args.coefficients.now in
-    let wanted = c.levels-with-coefficients-wanted.result in
+    let wanted = c.levels_with_coefficients-wanted.result in
     let level = c.loop-level.level in
     let here : lowest_unfit level (wanted - level) (drop level cs) ≡ Some level =
     elim c.then-level-coefficients.branch [
@@ -22,12 +22,12 @@ returns-then-level-coefficients c =
       | then-level-coefficients-via-else-level-coefficients+then-not-fits w ↦ unfit cs level wanted _ (omega arith) w.if-level-coefficients.false (sym w.if-not-fits.ensures)
     ]
     in
-    sym (ap coefficient_answer (c.loop-level.invariant ∙ here)) ∙ told cs wanted _ c.levels-with-coefficients-wanted.ensures
+    sym (ap coefficient_answer (c.loop-level.invariant ∙ here)) ∙ told cs wanted _ c.levels_with_coefficients-wanted.ensures
 
 pub loop-level-preserved : goal.loop-level-preserved
 loop-level-preserved c =
     let cs = c.args.coefficients.now in
-    let wanted = c.levels-with-coefficients-wanted.result in
+    let wanted = c.levels_with_coefficients-wanted.result in
     c.loop-level.invariant ∙ fits_on cs c.loop-level.level wanted _ (omega arith) c.if-level-coefficients.false (sym c.if-not-fits.ensures)
 
 last : (cs : List Coefficient) (level wanted : ℕ) → level ≡ wanted → lowest_unfit level (wanted - level) (drop level cs) ≡ lowest_unfit wanted (wanted - wanted) (drop wanted cs)
@@ -36,13 +36,13 @@ last cs level wanted e = ap (λ n. lowest_unfit n (wanted - n) (drop n cs)) e
 pub returns-then-coefficients-wanted : goal.returns-then-coefficients-wanted
 returns-then-coefficients-wanted c =
     let cs = c.args.coefficients.now in
-    let wanted = c.levels-with-coefficients-wanted.result in
+    let wanted = c.levels_with_coefficients-wanted.result in
     let there = c.loop-level.invariant ∙ last cs c.loop-level.level wanted (omega arith) ∙ extra cs wanted (omega arith) in
-    sym (ap coefficient_answer there) ∙ told cs wanted _ c.levels-with-coefficients-wanted.ensures
+    sym (ap coefficient_answer there) ∙ told cs wanted _ c.levels_with_coefficients-wanted.ensures
 
 pub returns : goal.returns
 returns c =
     let cs = c.args.coefficients.now in
-    let wanted = c.levels-with-coefficients-wanted.result in
+    let wanted = c.levels_with_coefficients-wanted.result in
     let there = c.loop-level.invariant ∙ last cs c.loop-level.level wanted (omega arith) ∙ no_extra cs wanted (omega arith) in
-    sym (ap coefficient_answer there) ∙ told cs wanted _ c.levels-with-coefficients-wanted.ensures
+    sym (ap coefficient_answer there) ∙ told cs wanted _ c.levels_with_coefficients-wanted.ensures

@@ -9,5 +9,5 @@ pub returns : goal.returns
 returns c =
     let cs = c.args.coefficients.now in
     let blank : List Coefficient = replicate 16 (record { a = 1; b = 0 }) in
-    ap (λ front. front ++ post_of 0 (length cs - 0) blank) c.copy-from-slice.ensures.after
+    ap (λ front. front ++ post_of 0 (length cs - 0) blank) c.copy_from_slice.ensures.after
     ∙ ap (λ back. cs ++ back) (Post-is 0 (length cs) blank (omega arith) ∙ drop-replicate (length cs) 16 (record { a = 1; b = 0 }))

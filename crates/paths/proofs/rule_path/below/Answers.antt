@@ -11,9 +11,9 @@ returns c =
           let at = c.args.at.now in
           let low : i < r.shape.levels = omega (arith, ap (λ d. d.level) come, c.requires) in
           let value = value_there r key i at low come c.value-value.result c.value-value.ensures in
-          let node = node_there r key i at low come c.value-value.result c.node-of-node.result value c.node-of-node.ensures in (
-            stage_below r key i at low come c.node-of-node.result node c.saturating-add.result c.saturating-mul-2.result c.saturating-add.ensures c.saturating-mul-2.ensures,
-            tries_there r key i at low come c.node-of-node.result node c.value-value.result _ c.saturating-add-first.result value c.saturating-mul.ensures c.saturating-add-first.ensures,
+          let node = node_there r key i at low come c.value-value.result c.node_of-node.result value c.node_of-node.ensures in (
+            stage_below r key i at low come c.node_of-node.result node c.saturating_add.result c.saturating_mul-2.result c.saturating_add.ensures c.saturating_mul-2.ensures,
+            tries_there r key i at low come c.node_of-node.result node c.value-value.result _ c.saturating_add-first.result value c.saturating_mul.ensures c.saturating_add-first.ensures,
           );
       onward = refl;
     }

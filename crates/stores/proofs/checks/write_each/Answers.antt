@@ -2,7 +2,7 @@
 use Rattle.std.proofs.Common.{◌∙◌, arith}
 use Rattle.stores.proofs.Writes.{kept_on, write_keeps}
 use Rattle.stores.proofs.checks.write_each.Goals as goal
-use Rattle.stores.proofs.checks.write_each.Goals.{then-is-ok, else-is-ok}
+use Rattle.stores.proofs.checks.write_each.Goals.{then-is_ok, else-is_ok}
 
 pub loop-write-preserved : goal.loop-write-preserved
 loop-write-preserved g c =
@@ -11,7 +11,7 @@ loop-write-preserved g c =
     let one =
     write_keeps (store.cells was) (store.cell was) (store.takes was) _ _ (store.cell c.write.new.self) c.write.result c.write.ensures.value c.write.ensures.after
     in (
-      elim c.if-is-ok.branch [ then-is-ok w ↦ omega (arith, w.accepted-is) | else-is-ok w ↦ omega (arith, w.accepted-is) ],
+      elim c.if-is_ok.branch [ then-is_ok w ↦ omega (arith, w.accepted-is) | else-is_ok w ↦ omega (arith, w.accepted-is) ],
       kept_on (store.cell c.args.store.now) (store.cell was) (store.cell c.write.new.self) c.loop-write.invariant.1 one,
       c.write.ensures.size ∙ c.loop-write.invariant.2,
     )

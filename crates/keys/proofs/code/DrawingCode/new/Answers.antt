@@ -6,10 +6,10 @@ use Rattle.keys.specs.Codes.{all_of_code, of_code, code_text, code_admissible, p
 use Rattle.keys.proofs.Codes.{first_byte, all_of_code_push, not_all_of_code, padded_more, padded_admissible, code_text_from}
 use Rattle.keys.proofs.code.DrawingCode.new.Goals as goal
 
-pub returns-then-is-none : goal.returns-then-is-none
-returns-then-is-none c =
+pub returns-then-is_none : goal.returns-then-is_none
+returns-then-is_none c =
     let text = c.args.text.now in
-    let other : of_code (get_or text c.loop-place.place 0) ≡ false = sym (first_byte (get_or text c.loop-place.place 0)) ∙ sym (ap is_some c.after.ensures) ∙ c.if-is-none.ensures in
+    let other : of_code (get_or text c.loop-place.place 0) ≡ false = sym (first_byte (get_or text c.loop-place.place 0)) ∙ sym (ap is_some c.after.ensures) ∙ c.if-is_none.ensures in
     and_right _ _ (not_all_of_code text c.loop-place.place (omega arith) other)
 
 pub loop-place-preserved : goal.loop-place-preserved
@@ -17,7 +17,7 @@ loop-place-preserved c =
     let text = c.args.text.now in
     let i = c.loop-place.place in
     let b = get_or text i 0 in
-    let good : of_code b ≡ true = sym (first_byte b) ∙ sym (ap is_some c.after.ensures) ∙ c.if-is-none.ensures in
+    let good : of_code b ≡ true = sym (first_byte b) ∙ sym (ap is_some c.after.ensures) ∙ c.if-is_none.ensures in
     let more : take (i + 1) text ≡ take i text ++ b ∷ [] = take_more text i 0 (omega arith) in
     let long : length (take i text) ≡ i = length-take-le i text (omega arith) in (
       ap (λ bs. set bs i b) c.loop-place.invariant.0 ∙ padded_more (take i text) i b long (omega arith) ∙ ap (λ xs. xs ++ replicate (12 - (i + 1)) 0) (sym more),
@@ -36,14 +36,14 @@ whole bytes text i low high inv =
 some : (text : List ℕ) → false ≡ eqb (length text) 0 → 0 < length text
 some text h = omega (arith, eqb-false (length text) 0 (sym h))
 
-pub invariant-of-result : goal.invariant-of-result
-invariant-of-result c =
+pub invariant_of-result : goal.invariant_of-result
+invariant_of-result c =
     let text = c.args.text.now in
     let all = whole c.loop-place.bytes text c.loop-place.place (omega arith) (omega arith) c.loop-place.invariant in
-    (ap code_admissible all.0 ∙ padded_admissible text (some text c.if-is-empty.ensures) c.if-text-gt12.false all.1, tt)
+    record { good = ap code_admissible all.0 ∙ padded_admissible text (some text c.if-is_empty.ensures) c.if-text-gt12.false all.1 }
 
 pub returns : goal.returns
 returns c =
     let text = c.args.text.now in
     let all = whole c.loop-place.bytes text c.loop-place.place (omega arith) (omega arith) c.loop-place.invariant in
-    (code_text_from text (some text c.if-is-empty.ensures) c.if-text-gt12.false all.1, all.0)
+    (code_text_from text (some text c.if-is_empty.ensures) c.if-text-gt12.false all.1, all.0)

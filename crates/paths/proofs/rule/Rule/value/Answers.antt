@@ -7,18 +7,18 @@ use Rattle.paths.specs.declared.rule.Rule.{Rule}
 use Rattle.paths.proofs.Values.{thin_value, fat_value}
 use Rattle.paths.proofs.rule.Rule.value.Goals as goal
 
-pub hashed-below-requires : goal.hashed-below-requires
-hashed-below-requires c =
-    record { fits = fit_at c.args.self.now.coefficients c.args.at.now.level _ (omega arith) c.args.self.now.fit; some = c.range-in-thin.ensures.some }
+pub hashed_below-requires : goal.hashed_below-requires
+hashed_below-requires c =
+    record { fits = fit_at c.args.self.now.coefficients c.args.at.now.level _ (omega arith) c.args.self.now.fit; some = c.range_in_thin.ensures.some }
 
-pub hashed-below-requires-in-Fat : goal.hashed-below-requires-in-Fat
-hashed-below-requires-in-Fat c =
+pub hashed_below-requires-in-Fat : goal.hashed_below-requires-in-Fat
+hashed_below-requires-in-Fat c =
     record { fits = fit_at c.args.self.now.coefficients c.args.at.now.level _ (omega arith) c.args.self.now.fit; some = omega arith }
 
 pub returns-in-Thin : goal.returns-in-Thin
 returns-in-Thin c own =
-    c.hashed-below.ensures
-    ∙ thin_value c.args.self.now c.args.at.now.level (omega arith) c.args.at.now.hash c.range-in-thin.result _ c.requires c.in-Thin.is c.range-in-thin.ensures.value
+    c.hashed_below.ensures
+    ∙ thin_value c.args.self.now c.args.at.now.level (omega arith) c.args.at.now.hash c.range_in_thin.result _ c.requires c.in-Thin.is c.range_in_thin.ensures.value
 
 pub returns-in-Fat : goal.returns-in-Fat
 returns-in-Fat c own =
@@ -26,5 +26,5 @@ returns-in-Fat c own =
     let level = c.args.at.now.level in
     let some : 1 ≤ span s.cells s.children level = span_some s.cells s.children level s.node.0 (omega (arith, s.fork.0)) in
     let whole : c.max.result ≡ span s.cells s.children level = omega (arith, own, some, c.max.ensures) in
-    c.hashed-below-in-Fat.ensures
+    c.hashed_below-in-Fat.ensures
     ∙ fat_value c.args.self.now level (omega arith) c.args.at.now.hash c.max.result _ c.requires c.in-Fat.is whole

@@ -18,8 +18,8 @@ returns-then-span-first c =
     let past : largest_total < first_cell s.cells s.children c.args.level = omega (arith, next, deeper) in
     sized_large _ past ∙ first_cell-asked s.cells s.children s.levels c.args.level (omega arith)
 
-pub overflow-mul-span : goal.overflow-mul-span
-overflow-mul-span c =
+pub overflow_mul-span : goal.overflow_mul-span
+overflow_mul-span c =
     let few = mul-le c.loop.span c.args.self.now.children largest_total 256 (omega arith) (omega arith) in
     omega (arith, few)
 
