@@ -6,6 +6,6 @@ use Rattle.listing.proofs.machine.sheet_bytes.Goals as goal
 
 pub returns : goal.returns
 returns c =
-    let same = c.in-ok-new.ensures in
-    let few : c.args.number ≤ largest_sheet = omega (arith, c.in-ok-new.field-0.small, same) in
-    ap Ok (c.to-bytes.ensures ∙ ap sheet_bytes same) ∙ sym (cond-true _ _ _ (le-leb _ _ few))
+    let same = c.in_ok-new.ensures in
+    let few : c.args.number ≤ largest_sheet = omega (arith, c.in_ok-new.field-0.small, same) in
+    ap Ok (c.to_bytes.ensures ∙ ap sheet_bytes same) ∙ sym (cond-true _ _ _ (le-leb _ _ few))

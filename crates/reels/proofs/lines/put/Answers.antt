@@ -12,6 +12,6 @@ returns c =
     let number = big_endian 4 c.args.cell in
     let bytes = c.args.bytes.now in
     let four = length-big_endian 4 c.args.cell in
-    let placed = put_part (first + 4) 24 ((first + 28) - (first + 4)) c.write-at.new.memory c.copy-from-slice.new.self bytes c.copy-from-slice.ensures.after (omega arith) c.requires.long in
+    let placed = put_part (first + 4) 24 ((first + 28) - (first + 4)) c.write_at.new.memory c.copy_from_slice.new.self bytes c.copy_from_slice.ensures.after (omega arith) c.requires.long in
     let joined = overwritten_two first 4 number bytes c.args.memory.now four (omega (arith, four)) in
-    c.write-at-2.ensures ∙ ap (overwritten 0 (big_endian 4 (c.args.n + 1))) (placed ∙ ap (overwritten (first + 4) bytes) c.write-at.ensures ∙ joined)
+    c.write_at-2.ensures ∙ ap (overwritten 0 (big_endian 4 (c.args.n + 1))) (placed ∙ ap (overwritten (first + 4) bytes) c.write_at.ensures ∙ joined)

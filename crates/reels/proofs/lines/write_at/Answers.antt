@@ -11,4 +11,4 @@ returns c =
     let m = c.args.memory.now in
     let four : (at + 4) - at ≡ 4 = omega arith in
     let l : length (take ((at + 4) - at) (drop at m)) ≡ 4 = simp (length-take, length-drop) (omega arith) in
-    put_part at 4 ((at + 4) - at) m c.write-number.new.bytes (big_endian 4 c.args.value) (c.write-number.ensures ∙ ap (λ (k : ℕ). big_endian k c.args.value) l) four (length-big_endian 4 c.args.value)
+    put_part at 4 ((at + 4) - at) m c.write_number.new.bytes (big_endian 4 c.args.value) (c.write_number.ensures ∙ ap (λ (k : ℕ). big_endian k c.args.value) l) four (length-big_endian 4 c.args.value)
