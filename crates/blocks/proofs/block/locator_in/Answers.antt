@@ -15,7 +15,7 @@ returns-then-slot-given c =
     elim c.then-slot-given.either [
       | inl past ↦ sym (slot_unused b n slot cell (omega (arith, c.used-given.ensures)))
       | inr other ↦
-          let t = ne_eqb (number_at b (4 + 12 * slot) 4) cell (λ e. other.1 (c.u32-at-held.ensures ∙ e)) in
+          let t = ne_eqb (number_at b (4 + 12 * slot) 4) cell (λ e. other.1 (c.u32_at-held.ensures ∙ e)) in
           sym (slot_used b n slot cell (omega (arith, c.used-given.ensures, other.0)) ∙ cond-false _ _ _ t)
     ]
 
@@ -25,5 +25,5 @@ returns c =
     let n = used_in c.args.slots b in
     let slot = c.args.slot in
     let cell = c.args.cell in
-    let t = eq-eqb (number_at b (4 + 12 * slot) 4) cell (sym c.u32-at-held.ensures ∙ c.if-held-cell.false) in
-    ap Ok c.u64-at.ensures ∙ sym (slot_used b n slot cell (omega (arith, c.used-given.ensures)) ∙ cond-true _ _ _ t)
+    let t = eq-eqb (number_at b (4 + 12 * slot) 4) cell (sym c.u32_at-held.ensures ∙ c.if-held-cell.false) in
+    ap Ok c.u64_at.ensures ∙ sym (slot_used b n slot cell (omega (arith, c.used-given.ensures)) ∙ cond-true _ _ _ t)

@@ -9,7 +9,7 @@ pub returns : goal.returns
 returns c =
     let memory = c.args.memory.now in
     let slots = c.args.slots in
-    let standing = c.in-ok-check-in.ensures.standing in
-    c.locator-in.ensures
-    ∙ ap (λ (b : List _). in_slot (pairs_in b (used_in slots b)) c.args.slot c.args.cell) (block_cut slots memory c.start-of-at.result c.args.group c.start-of-at.ensures _ (omega arith))
+    let standing = c.in_ok-check_in.ensures.standing in
+    c.locator_in.ensures
+    ∙ ap (λ (b : List _). in_slot (pairs_in b (used_in slots b)) c.args.slot c.args.cell) (block_cut slots memory c.start_of-at.result c.args.group c.start_of-at.ensures _ (omega arith))
     ∙ get_standing c.args.groups slots memory c.args.group standing c.args.slot c.args.cell

@@ -14,18 +14,18 @@ returns-in-Some c =
     let groups = c.args.groups in
     let slots = c.args.slots in
     let g = c.args.group in
-    let at = c.start-of-at.result in
+    let at = c.start_of-at.result in
     let p : Pair = record { cell = c.args.cell; locator = c.args.locator } in
-    let standing = c.in-ok-check-in.ensures.standing in
-    let wide : (at + c.block-size.result) - at ≡ block_size slots = omega arith in
-    let cut = block_cut slots memory at g c.start-of-at.ensures ((at + c.block-size.result) - at) wide in
+    let standing = c.in_ok-check_in.ensures.standing in
+    let wide : (at + c.block_size.result) - at ≡ block_size slots = omega arith in
+    let cut = block_cut slots memory at g c.start_of-at.ensures ((at + c.block_size.result) - at) wide in
     let slot = c.in-Some.ensures.value ∙ ap (free_slot slots) cut in
     let free = free_there groups slots memory g standing c.in-Some.slot slot in
     record {
       value = put_taken groups slots memory g standing c.in-Some.slot slot;
       after =
-          put_part at (block_size slots) ((at + c.block-size.result) - at) memory c.add.new.block (block_put (block_of slots memory g) p) (c.in-Some.ensures.after ∙ ap (λ (b : List ℕ). block_put b p) cut) wide (length_put slots (block_of slots memory g) p (length_block groups slots memory g standing) standing.narrow free)
-          ∙ ap (λ (k : ℕ). overwritten k (block_put (block_of slots memory g) p) memory) c.start-of-at.ensures;
+          put_part at (block_size slots) ((at + c.block_size.result) - at) memory c.add.new.block (block_put (block_of slots memory g) p) (c.in-Some.ensures.after ∙ ap (λ (b : List ℕ). block_put b p) cut) wide (length_put slots (block_of slots memory g) p (length_block groups slots memory g standing) standing.narrow free)
+          ∙ ap (λ (k : ℕ). overwritten k (block_put (block_of slots memory g) p) memory) c.start_of-at.ensures;
       spacious = record { standing = standing; free = free };
     }
 
@@ -33,14 +33,14 @@ pub returns-in-None : goal.returns-in-None
 returns-in-None c =
     let memory = c.args.memory.now in
     let slots = c.args.slots in
-    let at = c.start-of-at.result in
-    let wide : (at + c.block-size.result) - at ≡ c.block-size.result = omega arith in
-    let standing = c.in-ok-check-in.ensures.standing in
-    let cut = block_cut slots memory at c.args.group c.start-of-at.ensures ((at + c.block-size.result) - at) (omega arith) in
-    let long : length (take ((at + c.block-size.result) - at) (drop at memory)) ≡ c.block-size.result = simp (length-take, length-drop) (omega (arith, standing.inside)) in
+    let at = c.start_of-at.result in
+    let wide : (at + c.block_size.result) - at ≡ c.block_size.result = omega arith in
+    let standing = c.in_ok-check_in.ensures.standing in
+    let cut = block_cut slots memory at c.args.group c.start_of-at.ensures ((at + c.block_size.result) - at) (omega arith) in
+    let long : length (take ((at + c.block_size.result) - at) (drop at memory)) ≡ c.block_size.result = simp (length-take, length-drop) (omega (arith, standing.inside)) in
     record {
       value = put_full c.args.groups slots memory c.args.group standing (c.in-None.ensures.value ∙ ap (free_slot slots) cut);
       after =
-          put_part_if false at c.block-size.result ((at + c.block-size.result) - at) memory c.add.new.block memory (c.in-None.ensures.after ∙ ap (λ k. take k (drop at memory)) wide) wide (ap length c.in-None.ensures.after ∙ long);
+          put_part_if false at c.block_size.result ((at + c.block_size.result) - at) memory c.add.new.block memory (c.in-None.ensures.after ∙ ap (λ k. take k (drop at memory)) wide) wide (ap length c.in-None.ensures.after ∙ long);
       spacious = tt;
     }

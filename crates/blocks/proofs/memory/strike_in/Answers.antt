@@ -11,14 +11,14 @@ pub returns : goal.returns
 returns c =
     let memory = c.args.memory.now in
     let slots = c.args.slots in
-    let at = c.start-of-at.result in
-    let standing = c.in-ok-check-in.ensures.standing in
-    let wide : (at + c.block-size.result) - at ≡ block_size slots = omega arith in
-    let cut = block_cut slots memory at c.args.group c.start-of-at.ensures ((at + c.block-size.result) - at) wide in
+    let at = c.start_of-at.result in
+    let standing = c.in_ok-check_in.ensures.standing in
+    let wide : (at + c.block_size.result) - at ≡ block_size slots = omega arith in
+    let cut = block_cut slots memory at c.args.group c.start_of-at.ensures ((at + c.block_size.result) - at) wide in
     record {
       value = ap Ok (c.used-pairs.ensures ∙ ap (used_in slots) cut) ∙ strike_standing c.args.groups slots memory c.args.group standing;
       after =
-          put_part at (block_size slots) ((at + c.block-size.result) - at) memory c.wipe.new.block (block_gone slots) c.wipe.ensures wide (length_gone slots)
-          ∙ ap (λ (k : ℕ). overwritten k (block_gone slots) memory) c.start-of-at.ensures;
+          put_part at (block_size slots) ((at + c.block_size.result) - at) memory c.wipe.new.block (block_gone slots) c.wipe.ensures wide (length_gone slots)
+          ∙ ap (λ (k : ℕ). overwritten k (block_gone slots) memory) c.start_of-at.ensures;
       standing = standing;
     }

@@ -10,18 +10,18 @@ use Rattle.ledgers.proofs.Refused.{none_gone_more, none_retired}
 use Rattle.ledgers.proofs.Striking.{strike_after, strike_drawn}
 use Rattle.ledgers.proofs.calls.strike_in.Goals as goal
 
-pub returns-in-err-check-in : goal.returns-in-err-check-in
-returns-in-err-check-in c =
+pub returns-in_err-check_in : goal.returns-in_err-check_in
+returns-in_err-check_in c =
     let m = c.args.memory.now in
     let groups = c.args.groups in
     let lines = c.args.lines in
     let g = c.args.group in
-    let r = c.from-residual.result in
-    let f = c.in-err-check-in.field-0.0 in
-    let p = err_from_is_err_and r c.from-residual.ensures.1 in
+    let r = c.from_residual.result in
+    let f = c.in_err-check_in.field-0.0 in
+    let p = err_from_is_err_and r c.from_residual.ensures.1 in
     let refused = p.1 ∙ ap Err p.2 in
     record {
-      value = refused ∙ sym (refused_checked (ledger_groups groups lines m) (ledger_pairs groups lines m) g f (λ ps. Ok (as_u32 (length ps))) (sym c.in-err-check-in.ensures.value));
+      value = refused ∙ sym (refused_checked (ledger_groups groups lines m) (ledger_pairs groups lines m) g f (λ ps. Ok (as_u32 (length ps))) (sym c.in_err-check_in.ensures.value));
       after = none_retired r f refused (ledger_pairs groups lines m) g;
       history = λ puts gone drawn. drawn ∙ ap (drawn_ledger (groups ∷ (lines ∷ [])) puts) (none_gone_more r f refused gone g);
       memory = sym (cond-false _ _ _ (ap is_ok refused));
@@ -33,11 +33,11 @@ returns c =
     let groups = c.args.groups in
     let lines = c.args.lines in
     let g = c.args.group in
-    let is = c.used-in-n.ensures in
-    let alive = c.in-ok-check-in.ensures.there in
-    let all = ap (λ (xs : List ℕ). set xs g 1) (c.erase-lines.ensures ∙ ap (λ (k : ℕ). lines_struck (groups + 4) k g m) is) in
+    let is = c.used_in-n.ensures in
+    let alive = c.in_ok-check_in.ensures.there in
+    let all = ap (λ (xs : List ℕ). set xs g 1) (c.erase_lines.ensures ∙ ap (λ (k : ℕ). lines_struck (groups + 4) k g m) is) in
     record {
-      value = strike_live groups lines m g c.count-lines-had.result (omega arith) alive (c.count-lines-had.ensures.value ∙ ap (λ (k : ℕ). length (pairs_of g (rows (groups + 4) m k))) is);
+      value = strike_live groups lines m g c.count_lines-had.result (omega arith) alive (c.count_lines-had.ensures.value ∙ ap (λ (k : ℕ). length (pairs_of g (rows (groups + 4) m k))) is);
       after = λ i. ap (λ (xs : List ℕ). ledger_pairs groups lines xs i) all ∙ strike_after groups lines m g alive i;
       history = λ puts gone drawn. ap (take (ledger_size groups lines)) all ∙ strike_drawn groups lines m g alive puts gone drawn;
       memory = all;

@@ -4,7 +4,7 @@ use Rattle.std.proofs.lemmas.List.{drop_all}
 use Rattle.ledgers.specs.Ledgers.{line, pair_on, pairs_of, rows}
 use Rattle.ledgers.proofs.Rows.{number_first, pairs_other, pairs_own, rows_none, slot_first, slot_none}
 use Rattle.ledgers.proofs.lines.find_line.Goals as goal
-use Rattle.ledgers.proofs.lines.find_line.Goals.{then-u16-at-group+else-left-eq0, else-u16-at-group}
+use Rattle.ledgers.proofs.lines.find_line.Goals.{then-u16_at-group+else-left-eq0, else-u16_at-group}
 
 pub returns-then-left-eq0 : goal.returns-then-left-eq0
 returns-then-left-eq0 c =
@@ -13,8 +13,8 @@ returns-then-left-eq0 c =
     let at = c.args.groups + 4 in
     let n = c.args.n in
     let j = c.loop-j.j in
-    let number = c.u16-at.ensures ∙ number_first at m j c.line-start.result c.line-start.ensures in
-    let own = pairs_own at m n g j (omega arith) (sym number ∙ c.if-u16-at-group.true) in
+    let number = c.u16_at.ensures ∙ number_first at m j c.line_start.result c.line_start.ensures in
+    let own = pairs_own at m n g j (omega arith) (sym number ∙ c.if-u16_at-group.true) in
     slot_first (pairs_of g (rows at m n)) c.args.slot (pair_on (line at m j)) (pairs_of g (drop (j + 1) (rows at m n)))
     (c.loop-j.invariant ∙ ap (λ (k : ℕ). drop k (pairs_of g (drop j (rows at m n)))) c.if-left-eq0.true ∙ own)
 
@@ -25,14 +25,14 @@ loop-j-preserved c =
     let at = c.args.groups + 4 in
     let n = c.args.n in
     let j = c.loop-j.j in
-    let number = c.u16-at.ensures ∙ number_first at m j c.line-start.result c.line-start.ensures in
-    elim c.if-u16-at-group.branch [
-      | then-u16-at-group+else-left-eq0 w ↦
-          let own = pairs_own at m n g j (omega arith) (sym number ∙ w.if-u16-at-group.true) in
-          let less : c.loop-j.left ≡ suc c.if-u16-at-group.left = omega (arith, w.left-is, w.if-left-eq0.false) in
+    let number = c.u16_at.ensures ∙ number_first at m j c.line_start.result c.line_start.ensures in
+    elim c.if-u16_at-group.branch [
+      | then-u16_at-group+else-left-eq0 w ↦
+          let own = pairs_own at m n g j (omega arith) (sym number ∙ w.if-u16_at-group.true) in
+          let less : c.loop-j.left ≡ suc c.if-u16_at-group.left = omega (arith, w.left-is, w.if-left-eq0.false) in
           c.loop-j.invariant ∙ ap (drop c.loop-j.left) own ∙ ap (λ (k : ℕ). drop k (pair_on (line at m j) ∷ pairs_of g (drop (j + 1) (rows at m n)))) less
-      | else-u16-at-group w ↦
-          let other = pairs_other at m n g j (omega arith) (λ e. w.if-u16-at-group.false (number ∙ e)) in
+      | else-u16_at-group w ↦
+          let other = pairs_other at m n g j (omega arith) (λ e. w.if-u16_at-group.false (number ∙ e)) in
           c.loop-j.invariant ∙ ap (drop c.loop-j.left) other ∙ ap (λ (k : ℕ). drop k (pairs_of g (drop (j + 1) (rows at m n)))) (sym w.left-is)
     ]
 

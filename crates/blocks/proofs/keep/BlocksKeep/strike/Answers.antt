@@ -6,8 +6,8 @@ use Rattle.blocks.proofs.keep.BlocksKeep.strike.Goals as goal
 pub returns : goal.returns
 returns c =
     let self = c.args.self.now in
-    let given = c.strike-in.ensures in
-    let done = strike_done self.groups self.slots self.memory.now c.strike-in.new.memory c.args.group c.strike-in.result given.after given.standing in
+    let given = c.strike_in.ensures in
+    let done = strike_done self.groups self.slots self.memory.now c.strike_in.new.memory c.args.group c.strike_in.result given.after given.standing in
     record {
       value = given.value;
       after = done.after;
