@@ -8,7 +8,7 @@ pub returns : goal.returns
 unfolding entry_bytes entry_in play
 returns c =
     record {
-      paths = c.worked-examples-hold.ensures;
+      paths = c.worked_examples_hold.ensures;
       entry_read = refl;
       entry_written = refl;
       starts = record { cells = λ i l. refl; group = λ g l. refl; count = refl };
