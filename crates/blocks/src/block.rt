@@ -3,8 +3,8 @@ ghost use Rattle.std.specs.Prelude.{◌≡◌, ◌+◌, length, is_some, if◌th
 ghost use Rattle.keeps.specs.Groups.{in_slot};
 ghost use Rattle.blocks.specs.Blocks.{block_gone, block_put, block_size, free_slot, pairs_in, used_in};
 
-use octets::memory::{u32_at, u64_at, write_number_at};
 use keeps::fault::KeepFault;
+use octets::memory::{u32_at, u64_at, write_number_at};
 
 // In place of the count, once a group is retired.
 pub(crate) const RETIRED: u32 = 0xFFFF_FFFF;

@@ -4,9 +4,9 @@ ghost use Rattle.keeps.specs.Groups.{check_answer, get_answer, put_answer, strik
 ghost use Rattle.blocks.specs.Blocks.{Spacious, Standing, block_size, blocks_fit, blocks_groups, blocks_pairs, blocks_put, blocks_room, blocks_size, blocks_struck};
 
 use crate::block::{RETIRED, add, locator_in, used, wipe};
-use octets::memory::u32_at;
 use keeps::fault::KeepFault;
 use keeps::keep::MOST_GROUPS;
+use octets::memory::u32_at;
 use stores::fault::SetUpFault;
 
 // The most slots of a group.

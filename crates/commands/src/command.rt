@@ -78,7 +78,7 @@ fn read_digits(heap: Global, field: &Field) -> Result<Vec<u8>, CommandFault>
 }
 
 // Bytes in hexadecimal digits, at least one byte, and then no more fields.
-fn read_last_bytes(heap: Global, fields: &mut Fields) -> Result<Vec<u8>, CommandFault>
+pub fn read_last_bytes(heap: Global, fields: &mut Fields) -> Result<Vec<u8>, CommandFault>
     ensures { Barring result (told vec_items result ≡ last_bytes (fields_read fields.old) (fields_left fields.old)) }
 {
     let field = fields.text()?;

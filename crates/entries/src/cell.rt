@@ -3,8 +3,8 @@ ghost use Rattle.std.specs.Prelude.{◌≡◌, length, IfSome, if◌then◌else�
 ghost use Rattle.entries.specs.Entries.{Fits, entry_bytes, entry_in, is_marked, keyed_entry, one_by_one};
 
 use crate::entry::Entry;
-use octets::memory::{u16_at, u32_at};
 use keys::kind::Key;
+use octets::memory::{u16_at, u32_at};
 use stores::store::CELL_LENGTH;
 
 // The first byte of every entry.

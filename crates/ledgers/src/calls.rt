@@ -6,8 +6,8 @@ ghost use Rattle.ledgers.specs.Ledgers.{LiveIn, drawn_ledger, ledger_groups, led
 
 use crate::fit::groups_in;
 use crate::lines::{count_lines, erase_lines, find_line, line_start, used_in, write_line};
-use octets::memory::{u32_at, u64_at, write_number_at};
 use keeps::fault::KeepFault;
+use octets::memory::{u32_at, u64_at, write_number_at};
 
 // Whether the group is there and live.
 pub(crate) fn check_in(memory: &[u8], groups: u32, lines: u32, group: u16) -> Result<(), KeepFault>

@@ -33,9 +33,9 @@ impl StoreFault {
     {
         match self {
             StoreFault::Length => None,
-            StoreFault::Beyond(cell) | StoreFault::Written(cell) | StoreFault::NoCell(cell) => Some(
-                u64::from(*cell),
-            ),
+            StoreFault::Beyond(cell) | StoreFault::Written(cell) | StoreFault::NoCell(cell) => {
+                Some(u64::from(*cell))
+            }
         }
     }
 

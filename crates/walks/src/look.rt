@@ -2,10 +2,10 @@
 ghost use Rattle.std.specs.Prelude.{◌≡◌};
 ghost use Rattle.walks.specs.Looks.{seen_in};
 
-use octets::compare::same_bytes;
 use entries::cell::entry_of;
 use entries::entry::Entry;
 use keys::kind::Key;
+use octets::compare::same_bytes;
 use stores::store::{CELL_LENGTH, Store};
 
 #[derive(Clone, Copy)]
