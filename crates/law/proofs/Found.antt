@@ -3,7 +3,7 @@ use Rattle.std.proofs.Common.{◌≡◌, ℕ, ◌+◌, ◌<◌, true, false, eqb
 use Rattle.std.specs.Str.{bytes_eq}
 use Rattle.std.proofs.lemmas.Bool.{and_from, cond-false, cond-true, eq-eqb, lt-ltb, ne_eqb}
 use Rattle.entries.specs.Entries.{Fits}
-use Rattle.law.specs.Archive.{Cell, Entry, FOUND, Lawful, Option, Pair, Settings, State, Stop, at-blank, at_entry_lem, blank, changed, entry_bytes, entry_of, finding, get, gives, if_key, in_group, in_slot, none, probe, search_for, some, stop, stop_or, verdict, walk, written}
+use Rattle.law.specs.Archive.{Cell, Entry, FOUND, Lawful, Option, Pair, Settings, State, Stop, at_blank, at_entry, blank, changed, entry_bytes, entry_of, finding, get, gives, if_key, in_group, in_slot, none, probe, search_for, some, stop, stop_or, verdict, walk, written}
 use Rattle.law.specs.History.{Blank, Event, Receipt, Run, Step, after_filing, any, filed, filing, next, retires, retiring, searched, searching, struck, turned_down, turning_down, writes_at, writing, wrote}
 use Rattle.law.specs.Promise.{FiledIsFound, FoundStaysFound, Untouched, slots}
 use Rattle.law.proofs.Ends.{cut}
@@ -13,22 +13,22 @@ use Rattle.law.proofs.Steps.{Landed, entry_back, landed_blank, landed_stop, move
 
 -- The walk that stopped at a blank cell stops there at the entry that is written.
 module _ (σ : Settings) (key : List ℕ) (cells : ℕ → Cell) (c p : ℕ) (b : List ℕ) (e : Entry) (free : cells c ≡ blank) (here : if_key key (entry_of σ b) ≡ some e) where
-  probe_filed : (d n : ℕ) (rest rest' : Stop) → (rest ≡ at-blank c p → rest' ≡ at_entry_lem c p e) → (x : Cell) → cells d ≡ x → probe σ key x d n rest ≡ at-blank c p → probe σ key (changed cells c (written b) d) d n rest' ≡ at_entry_lem c p e
+  probe_filed : (d n : ℕ) (rest rest' : Stop) → (rest ≡ at_blank c p → rest' ≡ at_entry c p e) → (x : Cell) → cells d ≡ x → probe σ key x d n rest ≡ at_blank c p → probe σ key (changed cells c (written b) d) d n rest' ≡ at_entry c p e
   probe_filed d n rest rest' later blank is stops =
       let at : d ≡ c = cc in
       let probes : n ≡ p = cc in
       ap (λ x. probe σ key x d n rest') (cond-true _ _ _ (eq-eqb c d (sym at)))
       ∙ ap (λ o. stop_or o d n rest') here
-      ∙ (λ i. at_entry_lem (at i) (probes i) e)
+      ∙ (λ i. at_entry (at i) (probes i) e)
   probe_filed d n rest rest' later (written x) is stops =
       let apart : c ≡ d → ⊥ = λ z. (let clash : blank ≡ written x = sym free ∙ ap cells z ∙ is in let w : ◌≡◌ {A = ℕ} 0 1 = cc in omega arith) in
       ap (λ y. probe σ key y d n rest') (cond-false _ _ _ (ne_eqb c d apart) ∙ is) ∙ go (if_key key (entry_of σ x)) stops
     where
-      go : (o : Option Entry) → stop_or o d n rest ≡ at-blank c p → stop_or o d n rest' ≡ at_entry_lem c p e
+      go : (o : Option Entry) → stop_or o d n rest ≡ at_blank c p → stop_or o d n rest' ≡ at_entry c p e
       go none z = later z
       go (some y) z = cc
 
-  walk_filed : (path : List ℕ) (n : ℕ) → walk σ cells key path n ≡ at-blank c p → walk σ (changed cells c (written b)) key path n ≡ at_entry_lem c p e
+  walk_filed : (path : List ℕ) (n : ℕ) → walk σ cells key path n ≡ at_blank c p → walk σ (changed cells c (written b)) key path n ≡ at_entry c p e
   walk_filed [] n stops = cc
   walk_filed (d ∷ path) n stops = probe_filed d (n + 1) _ _ (walk_filed path (n + 1)) (cells d) refl stops
 
@@ -50,7 +50,7 @@ record Filed (σ : Settings) (m : State) (key : List ℕ) (group locator : ℕ) 
   admissible : σ.admissible key ≡ true
   entry : Entry
   names : entry.group ≡ group
-  stops : stop σ m.cells key ≡ at_entry_lem r.cell r.probes entry
+  stops : stop σ m.cells key ≡ at_entry r.cell r.probes entry
   found : search_for σ m key ≡ FOUND locator r.cell r.probes
 
 abbrev Leaves : Settings → State → Event → Type 0

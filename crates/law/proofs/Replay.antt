@@ -4,7 +4,7 @@ use Rattle.std.specs.List.{AllByRecursion as All}
 use Rattle.std.proofs.ByRecursion.{All-weaker}
 use Rattle.std.proofs.lemmas.List.{length_push}
 use Rattle.std.proofs.lemmas.Bool.{or_parts, true≢false}
-use Rattle.law.specs.Archive.{Settings, Lawful, State, Cell, blank, written, Pair, Group, live, retired, Entry, entry_bytes, Stop, at-blank, at_entry_lem, at-end, walk, stop, changed}
+use Rattle.law.specs.Archive.{Settings, Lawful, State, Cell, blank, written, Pair, Group, live, retired, Entry, entry_bytes, Stop, at_blank, at_entry, at_end, walk, stop, changed}
 use Rattle.law.specs.History.{Event, after_filing, Blank, Step, filing, searching, retiring, writing, turning_down, Run, start, next, any, outside, Filing, filings}
 use Rattle.law.specs.Promise.{by_key_and_group, retired_in}
 use Rattle.law.proofs.Steps.{landed_blank, at_changed}
@@ -18,9 +18,9 @@ tally g [] = 0
 tally g (x ∷ ls) = cond (eqb x.1 g) (suc (tally g ls)) (tally g ls)
 
 abbrev pub landing : Stop → ℕ
-landing (at-blank c p) = c
-landing (at_entry_lem c p e) = c
-landing (at-end p) = 0
+landing (at_blank c p) = c
+landing (at_entry c p e) = c
+landing (at_end p) = 0
 
 -- The entry of a filing x after the filings ls.
 abbrev pub entry_after : List (List ℕ × ℕ) → List ℕ × ℕ → Entry
@@ -88,16 +88,16 @@ standing_live ps false qs e = cc
 
 module _ {σ : Settings} (lawful : Lawful σ) where
   -- where the next filing of a key stands
-  agrees : (fs : List Filing) (gone : ℕ → Bool) (s : State) → Stands σ fs gone s → (key : List ℕ) (cell probes : ℕ) → σ.admissible key ≡ true → stop σ s.cells key ≡ at-blank cell probes → stop σ (cells_of σ (labels fs)) key ≡ at-blank cell probes
+  agrees : (fs : List Filing) (gone : ℕ → Bool) (s : State) → Stands σ fs gone s → (key : List ℕ) (cell probes : ℕ) → σ.admissible key ≡ true → stop σ s.cells key ≡ at_blank cell probes → stop σ (cells_of σ (labels fs)) key ≡ at_blank cell probes
   agrees fs gone s h key cell probes ok w =
       sym (same_over σ key s.cells (cells_of σ (labels fs)) (σ.path key) 0 (All-weaker _ _ h.cells _ (lawful.path_within key ok))) ∙ w
 
-  pub filed_place : (fs : List Filing) (gone : ℕ → Bool) (s : State) → Stands σ fs gone s → (key : List ℕ) (cell probes : ℕ) → σ.admissible key ≡ true → stop σ s.cells key ≡ at-blank cell probes → place σ (labels fs) key ≡ cell
+  pub filed_place : (fs : List Filing) (gone : ℕ → Bool) (s : State) → Stands σ fs gone s → (key : List ℕ) (cell probes : ℕ) → σ.admissible key ≡ true → stop σ s.cells key ≡ at_blank cell probes → place σ (labels fs) key ≡ cell
   filed_place fs gone s h key cell probes ok w = ap landing (agrees fs gone s h key cell probes ok w)
 
   stands_filing : (fs : List Filing) (gone : ℕ → Bool) (s : State) → Stands σ fs gone s
       → (key : List ℕ) (group locator cell probes : ℕ) (ps : List Pair)
-      → σ.admissible key ≡ true → group < σ.groups → s.group group ≡ live ps → stop σ s.cells key ≡ at-blank cell probes
+      → σ.admissible key ≡ true → group < σ.groups → s.group group ≡ live ps → stop σ s.cells key ≡ at_blank cell probes
       → Stands σ (record { key = key; group = group; locator = locator } ∷ fs) gone (after_filing σ s key group locator cell ps)
   unfolding cells_of
   stands_filing fs gone s h key group locator cell probes ps ok small l w =

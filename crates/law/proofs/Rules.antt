@@ -9,7 +9,7 @@ use Rattle.law.specs.declared.answer.Answer.{Answer}
 use Rattle.law.specs.declared.answer.Answer.TheVariants.{Filed, Searched, Struck, Written}
 use Rattle.stores.specs.Cells.{write_in}
 use Rattle.keeps.specs.Groups.{of_live, with_pair}
-use Rattle.law.specs.Archive.{Settings, Lawful, State, Cell, blank, written, Pair, Group, live, retired, changed, as_u32, entry_bytes, Stop, at-blank, at_entry_lem, at-end, stop, search_for}
+use Rattle.law.specs.Archive.{Settings, Lawful, State, Cell, blank, written, Pair, Group, live, retired, changed, as_u32, entry_bytes, Stop, at_blank, at_entry, at_end, stop, search_for}
 use Rattle.law.specs.History.{Call, file, find, retire, write, filed, struck, Step, filing, searching, retiring, writing, turning_down, after}
 use Rattle.law.specs.Rules.{Room, in_keep, in_store, and_then, told, handed, file_at, answer, event}
 use Rattle.law.specs.Promise.{slots}
@@ -28,7 +28,7 @@ module _ {σ : Settings} (lawful : Lawful σ) (room : Room) (s : State) (small :
   file_steps : (key : List ℕ) (g l : ℕ) → Steps (file key g l) (answer σ room s (file key g l))
   file_steps key g l = by_key (σ.admissible key) refl
     where
-      done : (ps : List Pair) (c p : ℕ) → σ.admissible key ≡ true → g < σ.groups → s.group g ≡ live ps → stop σ s.cells key ≡ at-blank c p
+      done : (ps : List Pair) (c p : ℕ) → σ.admissible key ≡ true → g < σ.groups → s.group g ≡ live ps → stop σ s.cells key ≡ at_blank c p
           → Steps (file key g l) (Ok (Filed (handed s g c p)))
       done ps c p ok lt there w =
           let slot : length ps ≡ as_u32 (slots (s.group g)) = ap slots (sym there) ∙ sym (slots_fit g lt) in
@@ -38,7 +38,7 @@ module _ {σ : Settings} (lawful : Lawful σ) (room : Room) (s : State) (small :
           (record { cells = changed s.cells c (written (entry_bytes σ (record { key = key; group = g; slot = x.0; filing = x.1 }))); group = changed s.group g x.2; count = x.1 }))
           (λ i. (slot i, number i, group i)) (filing {s = s} {locator = l} {pairs = ps} ok lt there w)
 
-      by_room : (ps : List Pair) (c p : ℕ) → σ.admissible key ≡ true → g < σ.groups → s.group g ≡ live ps → stop σ s.cells key ≡ at-blank c p
+      by_room : (ps : List Pair) (c p : ℕ) → σ.admissible key ≡ true → g < σ.groups → s.group g ≡ live ps → stop σ s.cells key ≡ at_blank c p
           → (b b' : Bool) → Steps (file key g l) (told Filed (cond b (cond b' (Ok (handed s g c p)) (Err (Keep (NoSlot g)))) (Err (Store (NoCell c)))))
       by_room ps c p ok lt there w true true = done ps c p ok lt there w
       by_room ps c p ok lt there w true false = turning_down
@@ -46,9 +46,9 @@ module _ {σ : Settings} (lawful : Lawful σ) (room : Room) (s : State) (small :
 
       by_stop : (ps : List Pair) → σ.admissible key ≡ true → g < σ.groups → s.group g ≡ live ps → (w : Stop) → stop σ s.cells key ≡ w
           → Steps (file key g l) (told Filed (file_at σ room s g w))
-      by_stop ps ok lt there (at-blank c p) e = by_room ps c p ok lt there e (room.cell c) (room.pair g)
-      by_stop ps ok lt there (at_entry_lem c p x) e = turning_down
-      by_stop ps ok lt there (at-end p) e = turning_down
+      by_stop ps ok lt there (at_blank c p) e = by_room ps c p ok lt there e (room.cell c) (room.pair g)
+      by_stop ps ok lt there (at_entry c p x) e = turning_down
+      by_stop ps ok lt there (at_end p) e = turning_down
 
       by_live : σ.admissible key ≡ true → g < σ.groups → (x : Group) → s.group g ≡ x
           → Steps (file key g l) (told Filed (and_then (in_keep (of_live {A = Unit {0}} x g (λ _. Ok tt))) (file_at σ room s g (stop σ s.cells key))))

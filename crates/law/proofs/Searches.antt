@@ -2,16 +2,16 @@
 use Rattle.std.proofs.Common.{◌≡◌, ℕ, zero, suc, ◌+◌, ◌<◌, Bool, true, false, cond, eqb, ◌↔◌, List, [], ◌∷◌, sym, refl, ap, ◌∙◌, subst, arith}
 use Rattle.law.specs.Archive.{Option, none, some}
 use Rattle.std.proofs.lemmas.Bool.{lt-ltb}
-use Rattle.law.specs.Archive.{Settings, Lawful, State, Cell, blank, written, Pair, Group, live, retired, Entry, entry_of, if_key, Stop, at-blank, at_entry_lem, at-end, stop_or, probe, walk, stop, Result, KeepFault, NO-SLOT, gives, denies, GROUP, GONE, STRANGER, in_slot, in_group, get, ABSENT, RETIRED, verdict, finding, search_for}
+use Rattle.law.specs.Archive.{Settings, Lawful, State, Cell, blank, written, Pair, Group, live, retired, Entry, entry_of, if_key, Stop, at_blank, at_entry, at_end, stop_or, probe, walk, stop, Result, KeepFault, NO_SLOT, gives, denies, GROUP, GONE, STRANGER, in_slot, in_group, get, ABSENT, RETIRED, verdict, finding, search_for}
 use Rattle.law.specs.History.{Blank, Event, Run}
 use Rattle.law.specs.Promise.{Untouched}
 use Rattle.law.proofs.Steps.{Landed, landed_stop, Moved, moved, kept_moved, is_live, Turned, turned, answers}
 
 -- A walk that stopped at a blank cell finds it blank still.
 abbrev Still : (ℕ → Cell) → Stop → Type 0
-Still after (at-blank c p) = after c ≡ blank
-Still after (at_entry_lem c p e) = Unit {0}
-Still after (at-end p) = Unit {0}
+Still after (at_blank c p) = after c ≡ blank
+Still after (at_entry c p e) = Unit {0}
+Still after (at_end p) = Unit {0}
 
 -- The same walk over cells of which those that were written are as they were.
 module _ (σ : Settings) (key : List ℕ) (cells after : ℕ → Cell) (kept : (c : ℕ) (b : List ℕ) → cells c ≡ written b → after c ≡ written b) where
@@ -48,17 +48,17 @@ gone_differs σ s t g slot c p q small a b e = go (s.group g) a (t.group g) b (r
     go retired a y b e = grind arith
 
 -- A search says ABSENT at a blank cell only.
-absent_only : (σ : Settings) (s : State) (w : Stop) (c p : ℕ) → ABSENT c p ≡ finding σ s w → w ≡ at-blank c p
-absent_only σ s (at-blank d q) c p e = cc
-absent_only σ s (at_entry_lem d q x) c p e = go (get σ s x.group x.slot d) e
+absent_only : (σ : Settings) (s : State) (w : Stop) (c p : ℕ) → ABSENT c p ≡ finding σ s w → w ≡ at_blank c p
+absent_only σ s (at_blank d q) c p e = cc
+absent_only σ s (at_entry d q x) c p e = go (get σ s x.group x.slot d) e
   where
-    go : (r : Result ℕ KeepFault) → ABSENT c p ≡ verdict r d q → at_entry_lem d q x ≡ at-blank c p
+    go : (r : Result ℕ KeepFault) → ABSENT c p ≡ verdict r d q → at_entry d q x ≡ at_blank c p
     go (gives l) e = cc
     go (denies (GONE g)) e = cc
     go (denies (GROUP g)) e = cc
     go (denies (STRANGER g)) e = cc
-    go (denies (NO-SLOT g)) e = cc
-absent_only σ s (at-end q) c p e = cc
+    go (denies (NO_SLOT g)) e = cc
+absent_only σ s (at_end q) c p e = cc
 
 pub unmoved : (b : Bool) (x y : Cell) → Moved b x y → (x ≡ blank → (held : List ℕ) → y ≡ written held → ⊥) → b ≡ false
 unmoved false x y m never = refl
@@ -74,24 +74,24 @@ module _ {σ : Settings} (lawful : Lawful σ) (key : List ℕ) (ok : σ.admissib
       same_walk σ key s.cells t.cells (λ c b. kept_moved _ _ _ b (moved lawful c run)) (σ.path key) 0 (subst (Still t.cells) (sym e) still) ∙ e
 
   forth : (w : Stop) → stop σ s.cells key ≡ w → Landed (λ c. c < σ.total) s.cells w → finding σ s w ≡ finding σ t (stop σ t.cells key) → Untouched w events
-  forth (at-blank c p) e land same =
+  forth (at_blank c p) e land same =
       let there = subst (Landed (λ c. c < σ.total) t.cells) (absent_only σ t _ c p same) (landed_stop lawful t.cells key ok) in
       unmoved _ _ _ (moved lawful c run) (λ _ b h. grind arith)
-  forth (at_entry_lem c p x) e land same = (
+  forth (at_entry c p x) e land same = (
     unmoved _ _ _ (moved lawful c run) (λ free _ _. grind arith),
     unturned σ x.group _ _ _ (turned x.group run)
-        (λ small a b. gone_differs σ s t x.group x.slot c c p small a b (same ∙ ap (finding σ t) (same_stop (at_entry_lem c p x) e tt))),
+        (λ small a b. gone_differs σ s t x.group x.slot c c p small a b (same ∙ ap (finding σ t) (same_stop (at_entry c p x) e tt))),
   )
-  forth (at-end p) e land same = tt
+  forth (at_end p) e land same = tt
 
   back : (w : Stop) → stop σ s.cells key ≡ w → Landed (λ c. c < σ.total) s.cells w → Untouched w events → finding σ s w ≡ finding σ t (stop σ t.cells key)
-  back (at-blank c p) e land un =
+  back (at_blank c p) e land un =
       let as_it_was : s.cells c ≡ t.cells c = subst (λ b. Moved b (s.cells c) (t.cells c)) un (moved lawful c run) in
-      ap (finding σ t) (sym (same_stop (at-blank c p) e (sym as_it_was ∙ land.1)))
-  back (at_entry_lem c p x) e land un =
+      ap (finding σ t) (sym (same_stop (at_blank c p) e (sym as_it_was ∙ land.1)))
+  back (at_entry c p x) e land un =
       ap (λ r. verdict r c p) (sym ((answers lawful x.group x.slot c land.1.0 run land.1.1).1 un.1))
-      ∙ ap (finding σ t) (sym (same_stop (at_entry_lem c p x) e tt))
-  back (at-end p) e land un = ap (finding σ t) (sym (same_stop (at-end p) e tt))
+      ∙ ap (finding σ t) (sym (same_stop (at_entry c p x) e tt))
+  back (at_end p) e land un = ap (finding σ t) (sym (same_stop (at_end p) e tt))
 
 -- The same of a state and a later one.
 abbrev pub SearchesOver : Type 0

@@ -5,14 +5,14 @@ use Rattle.entries.proofs.Codec.{read_back}
 use Rattle.law.specs.Archive.{Option, none, some}
 use Rattle.std.specs.List.{AllByRecursion as All}
 use Rattle.std.proofs.lemmas.Bool.{cond-true, eqb-true, ne_eqb, or_parts, true≢false}
-use Rattle.law.specs.Archive.{Settings, Lawful, State, Cell, blank, written, Pair, Group, live, retired, Entry, entry_bytes, entry_of, if_key, Stop, at-blank, at_entry_lem, at-end, stop_or, probe, walk, stop, denies, GROUP, in_slot, in_group, get, changed}
+use Rattle.law.specs.Archive.{Settings, Lawful, State, Cell, blank, written, Pair, Group, live, retired, Entry, entry_bytes, entry_of, if_key, Stop, at_blank, at_entry, at_end, stop_or, probe, walk, stop, denies, GROUP, in_slot, in_group, get, changed}
 use Rattle.law.specs.History.{Event, Step, filing, searching, retiring, writing, turning_down, Run, start, next, any, writes_at, retires}
 
 -- Where a walk stopped: which cell that is, and what it holds.
 abbrev pub Landed : (ℕ → Type 0) → (ℕ → Cell) → Stop → Type 0
-Landed P cells (at-blank c p) = P c × (cells c ≡ blank)
-Landed P cells (at_entry_lem c p e) = P c × ((b : List ℕ) × (cells c ≡ written b))
-Landed P cells (at-end p) = Unit {0}
+Landed P cells (at_blank c p) = P c × (cells c ≡ blank)
+Landed P cells (at_entry c p e) = P c × ((b : List ℕ) × (cells c ≡ written b))
+Landed P cells (at_end p) = Unit {0}
 
 module _ (σ : Settings) (key : List ℕ) where
   landed_probe : (P : ℕ → Type 0) (cells : ℕ → Cell) (c p : ℕ) (rest : Stop) → P c → Landed P cells rest
@@ -32,7 +32,7 @@ pub landed_stop : {σ : Settings} → Lawful σ → (cells : ℕ → Cell) (key 
 landed_stop {σ} lawful cells key ok = landed σ key (λ c. c < σ.total) cells (σ.path key) 0 (lawful.path_within key ok)
 
 pub landed_blank : {σ : Settings} → Lawful σ → (cells : ℕ → Cell) (key : List ℕ) → σ.admissible key ≡ true
-    → {c p : ℕ} → stop σ cells key ≡ at-blank c p → (c < σ.total) × (cells c ≡ blank)
+    → {c p : ℕ} → stop σ cells key ≡ at_blank c p → (c < σ.total) × (cells c ≡ blank)
 landed_blank {σ} lawful cells key ok e = subst (Landed (λ c. c < σ.total) cells) e (landed_stop lawful cells key ok)
 
 -- A test of events, and a relation between the states before and after that holds with the test's answer.

@@ -11,11 +11,11 @@ use Rattle.trees.specs.Geometry.{largest_total}
 pub use Rattle.keeps.specs.Groups.{Group, Pair, as_u32, changed, get_answer, in_slot, live, of_live, retired}
 use Rattle.keeps.specs.Laws.{most_groups}
 pub use Rattle.keeps.specs.declared.fault.KeepFault.{KeepFault}
-pub use Rattle.keeps.specs.declared.fault.KeepFault.TheVariants.{Group as GROUP, Gone as GONE, NoSlot as NO-SLOT, Stranger as STRANGER}
+pub use Rattle.keeps.specs.declared.fault.KeepFault.TheVariants.{Group as GROUP, Gone as GONE, NoSlot as NO_SLOT, Stranger as STRANGER}
 pub use Rattle.entries.specs.declared.entry.Entry.{Entry}
 use Rattle.entries.specs.Entries.{entry_bytes as bytes_of, entry_in}
 pub use Rattle.law.specs.declared.answer.Stop.{Stop}
-pub use Rattle.law.specs.declared.answer.Stop.TheVariants.{AtBlank as at-blank, AtEntry as at_entry_lem, AtEnd as at-end}
+pub use Rattle.law.specs.declared.answer.Stop.TheVariants.{AtBlank as at_blank, AtEntry as at_entry, AtEnd as at_end}
 pub use Rattle.law.specs.declared.answer.Verdict.{Verdict}
 pub use Rattle.law.specs.declared.answer.Verdict.TheVariants.{Absent as ABSENT, Exhausted as EXHAUSTED, Found as FOUND, Retired as RETIRED, Foreign as FOREIGN}
 
@@ -56,16 +56,16 @@ if_key key (some e) = cond (bytes_eq e.key key) (some e) none
 
 abbrev pub stop_or : Option Entry → (cell probes : ℕ) → Stop → Stop
 stop_or none cell probes rest = rest
-stop_or (some e) cell probes rest = at_entry_lem cell probes e
+stop_or (some e) cell probes rest = at_entry cell probes e
 
 -- A walk for a key at a cell: it stops at a blank one and at an entry of this key, and passes over anything else.
 abbrev pub probe : Settings → (key : List ℕ) → Cell → (cell probes : ℕ) → Stop → Stop
-probe σ key blank cell probes rest = at-blank cell probes
+probe σ key blank cell probes rest = at_blank cell probes
 probe σ key (written bytes) cell probes rest = stop_or (if_key key (entry_of σ bytes)) cell probes rest
 
 -- The walk over the cells of a path, after so many probes: cells that were read already.
 abbrev pub walk : Settings → (ℕ → Cell) → (key path : List ℕ) (probes : ℕ) → Stop
-walk σ cells key [] probes = at-end probes
+walk σ cells key [] probes = at_end probes
 walk σ cells key (c ∷ path) probes = probe σ key (cells c) c (probes + 1) (walk σ cells key path (probes + 1))
 
 abbrev pub stop : Settings → (ℕ → Cell) → (key : List ℕ) → Stop
@@ -83,14 +83,14 @@ abbrev pub verdict : Result ℕ KeepFault → (cell probes : ℕ) → Verdict
 verdict (gives locator) cell probes = FOUND locator cell probes
 verdict (denies (GONE g)) cell probes = RETIRED cell probes
 verdict (denies (GROUP g)) cell probes = FOREIGN (GROUP g) cell probes
-verdict (denies (NO-SLOT g)) cell probes = FOREIGN (NO-SLOT g) cell probes
+verdict (denies (NO_SLOT g)) cell probes = FOREIGN (NO_SLOT g) cell probes
 verdict (denies (STRANGER c)) cell probes = FOREIGN (STRANGER c) cell probes
 
 -- What a search answers where its walk stopped; at an entry the keep is asked with its group and slot, and the cell.
 abbrev pub finding : Settings → State → Stop → Verdict
-finding σ s (at-blank cell probes) = ABSENT cell probes
-finding σ s (at_entry_lem cell probes e) = verdict (get σ s e.group e.slot cell) cell probes
-finding σ s (at-end probes) = EXHAUSTED probes
+finding σ s (at_blank cell probes) = ABSENT cell probes
+finding σ s (at_entry cell probes e) = verdict (get σ s e.group e.slot cell) cell probes
+finding σ s (at_end probes) = EXHAUSTED probes
 
 abbrev pub search_for : Settings → State → (key : List ℕ) → Verdict
 search_for σ s key = finding σ s (stop σ s.cells key)

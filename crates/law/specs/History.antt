@@ -1,6 +1,6 @@
 -- A history of an archive: calls with their answers, each meeting what the earlier ones left, any of them perhaps turned down.
 use Rattle.std.specs.Prelude.{◌≡◌, ℕ, ◌+◌, ◌<◌, Bool, true, false, cond, ◌||◌, List, [], ◌∷◌, ◌++◌, length, ◌==◌}
-use Rattle.law.specs.Archive.{Settings, State, blank, cell_length, written, Pair, live, retired, entry_bytes, Verdict, search_for, stop, at-blank, changed}
+use Rattle.law.specs.Archive.{Settings, State, blank, cell_length, written, Pair, live, retired, entry_bytes, Verdict, search_for, stop, at_blank, changed}
 use Rattle.keeps.specs.Groups.{with_pair}
 use Rattle.keeps.specs.History.{Put}
 pub use Rattle.law.specs.declared.answer.Receipt.{Receipt}
@@ -41,7 +41,7 @@ after_filing σ s key group locator cell pairs = record {
 -- that changes something may be turned down; what is accepted meets the conditions here.
 pub data Step (σ : Settings) : State → Event → State → Type 0 where
   filing : {s : State} {key : List ℕ} {group locator cell probes : ℕ} {pairs : List Pair}
-      → σ.admissible key ≡ true → group < σ.groups → s.group group ≡ live pairs → stop σ s.cells key ≡ at-blank cell probes
+      → σ.admissible key ≡ true → group < σ.groups → s.group group ≡ live pairs → stop σ s.cells key ≡ at_blank cell probes
       → Step σ s (filed key group locator (receipt s cell probes pairs)) (after_filing σ s key group locator cell pairs)
   searching : {s : State} {key : List ℕ} → σ.admissible key ≡ true → Step σ s (searched key (search_for σ s key)) s
   retiring : {s : State} {group : ℕ} {pairs : List Pair} → group < σ.groups → s.group group ≡ live pairs

@@ -2,14 +2,14 @@
 use Rattle.std.specs.Prelude.{◌≡◌, ℕ, zero, suc, ◌^◌, ◌<◌, ◌≤◌, Bool, true, false, cond, ◌↔◌, List, ◌∷◌, ◌++◌, map, length}
 use Rattle.stores.specs.Cells.{is_written}
 use Rattle.keeps.specs.History.{Forgets, Put}
-use Rattle.law.specs.Archive.{Cell, Entry, FOUND, Group, Lawful, Settings, State, Stop, Verdict, at-blank, at-end, at_entry_lem, get, live, retired, search_for, stop}
+use Rattle.law.specs.Archive.{Cell, Entry, FOUND, Group, Lawful, Settings, State, Stop, Verdict, at_blank, at_end, at_entry, get, live, retired, search_for, stop}
 use Rattle.law.specs.History.{Blank, Event, Filing, Receipt, Run, any, filed, filings, locators, outside, puts, retires, searched, writes_at}
 
 -- No write was accepted at the cell where a search ended, and no retirement of the group that an entry found there names.
 abbrev pub Untouched : Stop → List Event → Type 0
-Untouched (at-blank cell probes) events = any (writes_at cell) events ≡ false
-Untouched (at_entry_lem cell probes e) events = (any (writes_at cell) events ≡ false) × (any (retires e.group) events ≡ false)
-Untouched (at-end probes) events = Unit {0}
+Untouched (at_blank cell probes) events = any (writes_at cell) events ≡ false
+Untouched (at_entry cell probes e) events = (any (writes_at cell) events ≡ false) × (any (retires e.group) events ≡ false)
+Untouched (at_end probes) events = Unit {0}
 
 -- Of every two searches for one key that stand in a history from s₀: their answers are equal, in verdict, locator, cell, probes and
 -- the refusal inside FOREIGN, exactly when nothing that was accepted between them touched what the first one found. (Events stand
@@ -93,7 +93,7 @@ FoundStaysFound =
     (σ : Settings) → Lawful σ
     → (s₀ s t : State) (before since : List Event) (key : List ℕ) (cell probes locator : ℕ) (e : Entry) → Blank σ s₀
     → Run σ s₀ before s → Run σ s since t → σ.admissible key ≡ true
-    → stop σ s.cells key ≡ at_entry_lem cell probes e → search_for σ s key ≡ FOUND locator cell probes
+    → stop σ s.cells key ≡ at_entry cell probes e → search_for σ s key ≡ FOUND locator cell probes
     → any (retires e.group) since ≡ false
     → search_for σ t key ≡ FOUND locator cell probes
 

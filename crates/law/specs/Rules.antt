@@ -10,7 +10,7 @@ use Rattle.law.specs.declared.answer.Answer.{Answer}
 use Rattle.law.specs.declared.answer.Answer.TheVariants.{Filed, Searched, Struck, Written}
 use Rattle.stores.specs.Cells.{write_answer}
 use Rattle.keeps.specs.Groups.{check_answer, strike_answer}
-use Rattle.law.specs.Archive.{Settings, Lawful, State, Stop, at-blank, at_entry_lem, at-end, stop, as_u32, Verdict, search_for}
+use Rattle.law.specs.Archive.{Settings, Lawful, State, Stop, at_blank, at_entry, at_end, stop, as_u32, Verdict, search_for}
 use Rattle.law.specs.History.{Call, file, find, retire, write, Receipt, Event, filed, searched, struck, wrote, turned_down, after}
 use Rattle.law.specs.Promise.{Law, slots}
 
@@ -44,9 +44,9 @@ handed s g cell probes = record { cell = cell; probes = probes; slot = as_u32 (s
 module _ (σ : Settings) (room : Room) (s : State) where
   -- At an entry TWICE, at the end FULL PATH, at a blank cell NO CELL and then NO SLOT.
   abbrev pub file_at : ℕ → Stop → Result Receipt ArchiveFault
-  file_at g (at_entry_lem cell probes e) = Err (Twice cell)
-  file_at g (at-end probes) = Err FullPath
-  file_at g (at-blank cell probes) =
+  file_at g (at_entry cell probes e) = Err (Twice cell)
+  file_at g (at_end probes) = Err FullPath
+  file_at g (at_blank cell probes) =
       cond (room.cell cell) (cond (room.pair g) (Ok (handed s g cell probes)) (Err (Keep (NoSlot g)))) (Err (Store (NoCell cell)))
 
   -- KEY, GROUP, GONE, then the walk.

@@ -1,6 +1,6 @@
 // The value of a level: which child and which cell a key's hash picks there.
 ghost use Rattle.std.specs.Prelude.{◌≡◌, ◌*◌, ◌<◌, ◌≤◌, true};
-ghost use Rattle.trees.specs.Geometry.{span as Span-of};
+ghost use Rattle.trees.specs.Geometry.{span as span_of};
 ghost use Rattle.trees.specs.Paths.{hashed, thin_range, bits_of, value_at, node_below};
 ghost use Rattle.trees.specs.Settings.{coefficient_fits, log_two, scheme_takes};
 ghost use Rattle.trees.specs.declared.settings.Scheme.TheVariants.{Trie};
@@ -53,7 +53,7 @@ impl Rule {
     // The value of a level for a descent that has come there.
     pub(crate) fn value(&self, at: &Descent) -> u32
         requires { at.now.level < self.now.shape.levels }
-        ensures { at.now.span ≡ Span-of self.now.shape.cells self.now.shape.children at.now.level → result ≡ value_at (settings_of self.now) at.now.hash at.now.level }
+        ensures { at.now.span ≡ span_of self.now.shape.cells self.now.shape.children at.now.level → result ≡ value_at (settings_of self.now) at.now.hash at.now.level }
     {
         let shape = &self.shape;
         let coefficient = self.coefficients[at.level as usize];
