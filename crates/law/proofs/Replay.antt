@@ -1,6 +1,6 @@
 -- The archive that accepted filings leave, computed from their keys, groups and locators alone.
 use Rattle.std.proofs.Common.{◌≡◌, ℕ, suc, ◌+◌, ◌<◌, Bool, true, false, cond, ◌||◌, eqb, List, [], ◌∷◌, ◌++◌, map, length, sym, refl, ap, ◌∙◌, subst, arith}
-use Rattle.std.specs.List.{AllByRecursion as All}
+use Rattle.std.specs.List.{AllByRecursion}
 use Rattle.std.proofs.ByRecursion.{All-weaker}
 use Rattle.std.proofs.lemmas.List.{length_push}
 use Rattle.std.proofs.lemmas.Bool.{or_parts, true≢false}
@@ -65,7 +65,7 @@ pub record Stands (σ : Settings) (fs : List Filing) (gone : ℕ → Bool) (s : 
   pub sound : Sound σ (labels fs)
 
 -- Walks over cells that agree on the path are equal.
-same_over : (σ : Settings) (key : List ℕ) (cells others : ℕ → Cell) (path : List ℕ) (n : ℕ) → All (λ c. cells c ≡ others c) path → walk σ cells key path n ≡ walk σ others key path n
+same_over : (σ : Settings) (key : List ℕ) (cells others : ℕ → Cell) (path : List ℕ) (n : ℕ) → AllByRecursion (λ c. cells c ≡ others c) path → walk σ cells key path n ≡ walk σ others key path n
 same_over σ key cells others [] n h = refl
 same_over σ key cells others (c ∷ path) n h = let rest = same_over σ key cells others path (n + 1) h.1 in let here = h.0 in cc
 

@@ -3,7 +3,7 @@ use Rattle.std.proofs.Common.{◌≡◌, ℕ, zero, suc, ◌+◌, ◌<◌, Bool,
 use Rattle.entries.specs.Entries.{Fits}
 use Rattle.entries.proofs.Codec.{read_back}
 use Rattle.law.specs.Archive.{Option, none, some}
-use Rattle.std.specs.List.{AllByRecursion as All}
+use Rattle.std.specs.List.{AllByRecursion}
 use Rattle.std.proofs.lemmas.Bool.{cond-true, eqb-true, ne_eqb, or_parts, true≢false}
 use Rattle.law.specs.Archive.{Settings, Lawful, State, Cell, blank, written, Pair, Group, live, retired, Entry, entry_bytes, entry_of, if_key, Stop, at_blank, at_entry, at_end, stop_or, probe, walk, stop, denies, GROUP, in_slot, in_group, get, changed}
 use Rattle.law.specs.History.{Event, Step, filing, searching, retiring, writing, turning_down, Run, start, next, any, writes_at, retires}
@@ -24,7 +24,7 @@ module _ (σ : Settings) (key : List ℕ) where
       go none = there
       go (some x) = (here, (b, e))
 
-  pub landed : (P : ℕ → Type 0) (cells : ℕ → Cell) (path : List ℕ) (n : ℕ) → All P path → Landed P cells (walk σ cells key path n)
+  pub landed : (P : ℕ → Type 0) (cells : ℕ → Cell) (path : List ℕ) (n : ℕ) → AllByRecursion P path → Landed P cells (walk σ cells key path n)
   landed P cells [] n h = tt
   landed P cells (c ∷ path) n h = landed_probe P cells c (n + 1) _ h.0 (landed P cells path (n + 1) h.1) (cells c) refl
 

@@ -1,6 +1,6 @@
 -- An archive as values: its settings, its state, the walk over a key's path, and what a search answers.
 use Rattle.std.specs.Prelude.{◌≡◌, ℕ, ◌+◌, ◌<◌, ◌≤◌, Bool, true, cond, List, [], ◌∷◌, length}
-use Rattle.std.specs.List.{AllByRecursion as All}
+use Rattle.std.specs.List.{AllByRecursion}
 use Rattle.std.specs.Str.{bytes_eq}
 pub use Rattle.std.specs.declared.option.Option.{Option}
 pub use Rattle.std.specs.declared.option.Option.TheVariants.{None as none, Some as some}
@@ -32,7 +32,7 @@ pub record Settings : Type 0 where
 -- What every kind of key, path rule and keep shows of itself.
 pub record Lawful (σ : Settings) : Type 0 where
   pub key_length : (key : List ℕ) → σ.admissible key ≡ true → length key ≡ 12
-  pub path_within : (key : List ℕ) → σ.admissible key ≡ true → All (λ c. c < σ.total) (σ.path key)
+  pub path_within : (key : List ℕ) → σ.admissible key ≡ true → AllByRecursion (λ c. c < σ.total) (σ.path key)
   pub total_limit : σ.total ≤ largest_total
   pub groups_limit : σ.groups ≤ most_groups
 

@@ -2,7 +2,7 @@
 use Rattle.std.specs.Prelude.{ℕ, ◌^◌, ◌<◌, List}
 use Rattle.std.proofs.Common.{arith, ap, sym, ◌∙◌}
 use Rattle.std.proofs.lemmas.Nat.{mul-le}
-use Rattle.std.specs.List.{AllByRecursion as All}
+use Rattle.std.specs.List.{AllByRecursion}
 use Rattle.keys.proofs.Digests.{fnv1a_below}
 use Rattle.keys.proofs.Folds.{fold_below}
 use Rattle.paths.specs.declared.rule.Rule.{Rule}
@@ -19,7 +19,7 @@ hash_small Thin key = omega (arith, fold_below key)
 hash_small Fat key = omega (arith, fold_below key)
 hash_small Trie key = fnv1a_below key
 
-inside : (r : Rule) (key : List ℕ) → All (λ cell. cell < r.total) (rule_path r key)
+inside : (r : Rule) (key : List ℕ) → AllByRecursion (λ cell. cell < r.total) (rule_path r key)
 inside r key =
     let s = settings_of r in
     let below = path_inside s (hash_of r.shape.scheme key) r.shape.node.0 (omega (arith, r.shape.fork.0)) r.shape.taken (hash_small r.shape.scheme key) r.shape.width.0 in

@@ -1,7 +1,7 @@
 -- The cells of a path: where each stands, that it is below the total, and that none comes twice.
 use Rattle.std.proofs.Common.{◌≡◌, ℕ, zero, suc, ◌+◌, ◌-◌, ◌*◌, ◌/◌, ◌%◌, ◌^◌, ◌<◌, ◌≤◌, true, List, length, get_or, sym, refl, ap, ◌∙◌, inl, inr, mod-lt, mul_comm, add-mul, one-mul, div-add-mod', arith}
 use lib.Arith.{digits_lt}
-use Rattle.std.specs.List.{range_with_len, AllByRecursion as All}
+use Rattle.std.specs.List.{range_with_len, AllByRecursion}
 use Rattle.std.proofs.lemmas.Nat.{div_below, mul-le}
 use Rattle.std.proofs.lemmas.List.FromFn.{get_or-map-range_with_len, length-map-range_with_len}
 use Rattle.std.proofs.ByRecursion.{All-from_get_or}
@@ -56,7 +56,7 @@ module _ (s : RuleSettings) (hash : ℕ) (some : 1 ≤ s.cells) (fork : 1 ≤ s.
       let low : n / t < s.levels = div_below n t s.levels try (omega (arith, length_path s hash)) in
       (low, ap (λ p. get_or (path_from s hash) p 0) (sym (div-add-mod' n t)) ∙ getD_path s hash (n / t) (n % t) low (mod-lt n try))
 
-  pub path_inside : 1 ≤ s.tries → All (λ cell. cell < total_of s) (path_from s hash)
+  pub path_inside : 1 ≤ s.tries → AllByRecursion (λ cell. cell < total_of s) (path_from s hash)
   path_inside try =
       All-from_get_or (λ cell. cell < total_of s) (path_from s hash) 0
       (λ n h. let at = row n try h in omega (arith, at.1, cell_high (n / s.tries) (n % s.tries), first_cell_rises s.cells s.children (suc (n / s.tries)) s.levels at.0))

@@ -1,6 +1,6 @@
 -- A path that a call gives has all that the laws say of the path.
 use Rattle.std.proofs.Common.{◌≡◌, ℕ, ◌<◌, List, length, sym, ap, ◌∙◌, subst}
-use Rattle.std.specs.List.{AllByRecursion as All}
+use Rattle.std.specs.List.{AllByRecursion}
 use Rattle.trees.specs.Laws.{Once, RuleLaws, PathPromise}
 use Rattle.trees.specs.Settings.{RuleSettings}
 
@@ -11,7 +11,7 @@ promised settings total levels tries path laws rule key cells e =
     record {
       whole = e;
       long = ap length e ∙ laws.long rule key;
-      inside = subst (All (λ cell. cell < total rule)) (sym e) (laws.inside rule key);
+      inside = subst (AllByRecursion (λ cell. cell < total rule)) (sym e) (laws.inside rule key);
       once = subst Once (sym e) (laws.once rule key);
       settled = λ other same. (laws.same_total other rule same, laws.same_path other rule same key ∙ sym e);
     }

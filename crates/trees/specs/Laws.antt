@@ -1,6 +1,6 @@
 -- What every path rule shows of itself.
 use Rattle.std.specs.Prelude.{◌≡◌, ℕ, ◌*◌, ◌<◌, ◌≤◌, List, length, slice_index}
-use Rattle.std.specs.List.{AllByRecursion as All}
+use Rattle.std.specs.List.{AllByRecursion}
 use Rattle.trees.specs.Settings.{RuleSettings}
 use Rattle.trees.specs.Geometry.{largest_total}
 
@@ -20,7 +20,7 @@ pub record RuleLaws {P : Type 0} (settings : P → RuleSettings) (total levels t
   -- a path has so many cells
   pub long : (p : P) (key : List ℕ) → length (path p key) ≡ levels p * tries p
   -- each below the total
-  pub inside : (p : P) (key : List ℕ) → All (λ cell. cell < total p) (path p key)
+  pub inside : (p : P) (key : List ℕ) → AllByRecursion (λ cell. cell < total p) (path p key)
   -- and none twice
   pub once : (p : P) (key : List ℕ) → Once (path p key)
   -- equal settings have one total, one number of levels and of tries, and give every key the same path
@@ -33,7 +33,7 @@ pub record RuleLaws {P : Type 0} (settings : P → RuleSettings) (total levels t
 pub record PathPromise {P : Type 0} (settings : P → RuleSettings) (total levels tries : P → ℕ) (path : P → List ℕ → List ℕ) (rule : P) (key cells : List ℕ) : Type 0 where
   pub whole : cells ≡ path rule key
   pub long : length cells ≡ levels rule * tries rule
-  pub inside : All (λ cell. cell < total rule) cells
+  pub inside : AllByRecursion (λ cell. cell < total rule) cells
   pub once : Once cells
   -- a rule with equal settings has one total with this one, and gives the key the same cells
   pub settled : (other : P) → settings other ≡ settings rule → (total other ≡ total rule) × (path other key ≡ cells)
