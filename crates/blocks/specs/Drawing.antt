@@ -1,5 +1,5 @@
 -- The bytes of blocks, by their history.
-use Rattle.std.specs.Prelude.{ℕ, ◌+◌, ◌-◌, ◌*◌, Bool, cond, List, [], ◌∷◌, ◌++◌, length, take, replicate, ◌==◌, slice_index}
+use Rattle.std.specs.Prelude.{ℕ, ◌-◌, ◌*◌, Bool, cond, List, [], ◌∷◌, ◌++◌, length, take, replicate, ◌==◌, slice_index}
 use Rattle.std.specs.List.{range_with_len, flat_map}
 use Rattle.octets.specs.Numbers.{big_endian}
 use Rattle.keeps.specs.Groups.{Pair}

@@ -1,5 +1,5 @@
 -- What a store answers to a command, and what it holds then.
-use Rattle.std.specs.Prelude.{ℕ, Bool, cond, List, Ok, Err, Result}
+use Rattle.std.specs.Prelude.{ℕ, Bool, cond, Ok, Result}
 use Rattle.stores.specs.Cells.{Cell, cell_length, content, read_answer, write_answer, after_write}
 use Rattle.stores.specs.declared.fault.StoreFault.{StoreFault}
 use Rattle.commands.specs.declared.answer.Reply.{Reply}

@@ -1,8 +1,8 @@
 -- One level down: what is worked out there is the path's own, and nothing on the way comes near 2^32.
-use Rattle.std.proofs.Common.{◌≡◌, ℕ, zero, suc, ◌+◌, ◌-◌, ◌*◌, ◌/◌, ◌%◌, ◌^◌, ◌<◌, ◌≤◌, min, List, get_or, sym, refl, ap, ◌∙◌, mul_comm, add-one, arith}
+use Rattle.std.proofs.Common.{◌≡◌, ℕ, suc, ◌+◌, ◌*◌, ◌/◌, ◌%◌, ◌^◌, ◌<◌, ◌≤◌, List, get_or, sym, ap, ◌∙◌, mul_comm, add-one, arith}
 use Rattle.std.proofs.lemmas.Nat.{mul-le}
 use Rattle.trees.specs.Geometry.{first_cell, span, largest_total}
-use Rattle.trees.specs.Paths.{hash_of, value_at, index_at, node_below, node_above, node_at, cell_at}
+use Rattle.trees.specs.Paths.{hash_of, value_at, node_below, node_above, node_at, cell_at}
 use Rattle.trees.proofs.Cells.{cell_high, getD_path}
 use Rattle.trees.proofs.Geometry.{first_cell_more, first_cell_rises, span_more}
 use Rattle.trees.proofs.Nodes.{node_inside}

@@ -1,13 +1,13 @@
 -- What the checks of a rule's settings, coefficients and size leave when all of them pass.
-use Rattle.std.proofs.Common.{◌≡◌, ℕ, ◌-◌, ◌≤◌, true, false, cond, leb, List, ◌++◌, length, take, replicate, Some, None, Ok, Err, Option, sym, refl, ap, ◌∙◌, inl, inr, arith}
+use Rattle.std.proofs.Common.{◌≡◌, ℕ, ◌-◌, ◌≤◌, true, leb, List, ◌++◌, length, take, replicate, Some, None, Ok, Err, Option, refl, ap, ◌∙◌, inl, inr, arith}
 use Rattle.std.proofs.lemmas.List.{take_at}
 use Rattle.std.proofs.lemmas.Bool.{and_from, le-leb, leb-true, cond-true, cond-false, cases_Bool}
-use Rattle.trees.specs.declared.fault.RuleFault.TheVariants.{Setting, Coefficient, Size}
+use Rattle.trees.specs.declared.fault.RuleFault.TheVariants.{Size}
 use Rattle.trees.specs.declared.settings.Coefficient.{Coefficient as Pair}
 use Rattle.trees.specs.declared.settings.Scheme.{Scheme}
 use Rattle.trees.specs.declared.settings.Scheme.TheVariants.{Thin, Fat, Trie}
 use Rattle.trees.specs.declared.settings.Settings.{Settings}
-use Rattle.trees.specs.Geometry.{first_cell, largest_total}
+use Rattle.trees.specs.Geometry.{largest_total}
 use Rattle.trees.specs.Settings.{RuleSettings, wanted, in_range, all_fit}
 use Rattle.trees.specs.Refusal.{coefficients_of, lowest_unfit, coefficient_refusal, size_refusal, rule_refusal, sized, total_answer, total_of}
 use Rattle.trees.proofs.Coefficients.{none_unfit, all_fit-append, all_fit-replicate}

@@ -1,9 +1,9 @@
 -- The value of a level, as it is worked out and as the rules define it.
-use Rattle.std.proofs.Common.{◌≡◌, ℕ, zero, suc, ◌+◌, ◌-◌, ◌*◌, ◌/◌, ◌%◌, ◌^◌, ◌<◌, ◌≤◌, max, length, get_or, take, sym, refl, ap, ◌∙◌, add_assoc, mul-add, arith}
+use Rattle.std.proofs.Common.{◌≡◌, ℕ, zero, suc, ◌+◌, ◌-◌, ◌*◌, ◌/◌, ◌%◌, ◌^◌, ◌<◌, length, get_or, sym, refl, ap, ◌∙◌, mul-add, arith}
 use Rattle.std.proofs.lemmas.List.{get_or-take, get_or_default}
 use Rattle.trees.specs.declared.settings.Coefficient.{Coefficient}
 use Rattle.trees.specs.declared.settings.Scheme.{Scheme}
-use Rattle.trees.specs.declared.settings.Scheme.TheVariants.{Thin, Fat, Trie}
+use Rattle.trees.specs.declared.settings.Scheme.TheVariants.{Thin, Fat}
 use Rattle.trees.specs.Geometry.{span}
 use Rattle.trees.specs.Paths.{bits_of, coefficient_at, hashed, thin_range, value_at, value_by}
 use Rattle.trees.specs.Refusal.{coefficients_of}

@@ -1,6 +1,6 @@
 -- A join is a store.
-use Rattle.std.specs.Prelude.{◌≡◌, ℕ, ◌+◌, ◌-◌, ◌≤◌, min, Bool, true, false, cond, List, length, nat_lt}
-use Rattle.std.proofs.Common.{arith, ◌∙◌}
+use Rattle.std.specs.Prelude.{◌≡◌, ℕ, ◌-◌, Bool, true, false, cond, List, length, nat_lt}
+use Rattle.std.proofs.Common.{arith}
 use Rattle.std.proofs.lemmas.Bool.{cond-false, le-ltb, false≢true}
 use Rattle.stores.specs.Cells.{Cell, blank, written, cell_length}
 use Rattle.stores.specs.Laws.{StoreLaws}

@@ -1,5 +1,5 @@
 -- A join: the first store's cells, then the second's.
-use Rattle.std.specs.Prelude.{ℕ, ◌+◌, ◌-◌, min, Bool, true, false, cond, Ok, Err, Result, nat_le, nat_lt}
+use Rattle.std.specs.Prelude.{ℕ, ◌+◌, ◌-◌, min, Bool, false, cond, Ok, Err, Result, nat_le, nat_lt}
 use Rattle.stores.specs.Cells.{Cell, blank}
 use Rattle.stores.specs.Laws.{largest_store}
 use Rattle.stores.specs.declared.fault.SetUpFault.{SetUpFault}

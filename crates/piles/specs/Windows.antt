@@ -1,5 +1,5 @@
 -- A window: a run of cells of the store below, numbered from 0.
-use Rattle.std.specs.Prelude.{ℕ, ◌+◌, ◌-◌, min, Bool, true, false, cond, Ok, Err, Result, ◌==◌, nat_le, nat_lt}
+use Rattle.std.specs.Prelude.{ℕ, ◌+◌, ◌-◌, min, Bool, false, cond, Ok, Err, Result, ◌==◌, nat_le, nat_lt}
 use Rattle.stores.specs.Cells.{Cell, blank}
 use Rattle.stores.specs.declared.fault.SetUpFault.{SetUpFault}
 use Rattle.stores.specs.declared.fault.SetUpFault.TheVariants.{Setting, Size}

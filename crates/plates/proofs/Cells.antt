@@ -1,8 +1,8 @@
 -- The cells of a plate after a write.
-use Rattle.std.proofs.Common.{◌≡◌, ℕ, ◌+◌, ◌-◌, ◌*◌, ◌/◌, ◌<◌, ◌≤◌, min, true, cond, eqb, ltb, List, length, get_or, take, drop, sym, refl, ap, ◌∙◌, inl, inr, arith, length-drop, length-take}
+use Rattle.std.proofs.Common.{◌≡◌, ℕ, ◌+◌, ◌-◌, ◌*◌, ◌/◌, ◌<◌, min, cond, eqb, ltb, List, length, get_or, take, drop, sym, ap, ◌∙◌, inl, inr, arith, length-drop, length-take}
 use Rattle.std.proofs.lemmas.List.{same_lists, get_or-take, get_or-drop}
 use Rattle.std.proofs.lemmas.Bool.{cases_eq, cases_lt, cond-true, cond-false, eq-eqb, ne_eqb, lt-ltb}
-use Rattle.stores.specs.Cells.{Cell, blank, written, changed}
+use Rattle.stores.specs.Cells.{blank, written, changed}
 use Rattle.plates.specs.Plates.{plate_cells, plate_cell, flag, place, Plated}
 
 module _ (old new : List ℕ) (long : length new ≡ length old) where

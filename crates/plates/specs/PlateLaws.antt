@@ -1,8 +1,8 @@
 -- A plate is a store.
-use Rattle.std.specs.Prelude.{◌≡◌, ℕ, ◌+◌, ◌-◌, ◌*◌, ◌/◌, ◌<◌, ◌≤◌, min, Bool, true, false, cond, ◌&&◌, List, length, drop, ◌==◌, nat_lt, refl}
-use Rattle.std.proofs.Common.{div-mul-le_self, arith, ap, sym, ◌∙◌, inl, inr, length-take, length-drop}
-use Rattle.std.proofs.lemmas.Bool.{cond-false, cond-true, and_left, and_parts, le-ltb, ltb-true, cases_Bool}
-use Rattle.stores.specs.Cells.{Cell, blank, written, cell_length}
+use Rattle.std.specs.Prelude.{◌≡◌, ℕ, ◌+◌, ◌*◌, ◌<◌, ◌≤◌, Bool, true, false, cond, ◌&&◌, List, length, drop, ◌==◌, nat_lt, refl}
+use Rattle.std.proofs.Common.{div-mul-le_self, arith, ap, sym, ◌∙◌, length-take, length-drop}
+use Rattle.std.proofs.lemmas.Bool.{cond-false, and_left, le-ltb, ltb-true}
+use Rattle.stores.specs.Cells.{blank, written}
 use Rattle.stores.specs.Laws.{StoreLaws}
 use Rattle.plates.specs.declared.plate.Plate.{Plate}
 use Rattle.plates.specs.Plates.{plate_cells, plate_cell, plate_takes, flag, place}

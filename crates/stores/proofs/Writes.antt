@@ -1,9 +1,9 @@
 -- What is written stays, over one write and over any number of them.
 use Rattle.std.proofs.Common.{◌≡◌, ℕ, Bool, true, false, cond, eqb, ltb, List, length, Ok, Err, Result, sym, refl, ap, ◌∙◌, inl, inr, arith}
-use Rattle.std.proofs.lemmas.Bool.{cases_Bool, cond-true, cond-false, eqb-true}
+use Rattle.std.proofs.lemmas.Bool.{cases_Bool, cond-false, eqb-true}
 use Rattle.stores.specs.declared.fault.StoreFault.{StoreFault}
-use Rattle.stores.specs.declared.fault.StoreFault.TheVariants.{Length, Beyond, Written, NoCell}
-use Rattle.stores.specs.Cells.{Cell, blank, written, cell_length, write_in, write_answer, changed, after_write}
+use Rattle.stores.specs.declared.fault.StoreFault.TheVariants.{Length, Beyond}
+use Rattle.stores.specs.Cells.{Cell, blank, written, cell_length, write_in, write_answer, after_write}
 use Rattle.stores.specs.Writes.{Kept}
 
 never : (x : List ℕ) → blank ≡ written x → ⊥

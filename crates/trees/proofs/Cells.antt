@@ -1,13 +1,13 @@
 -- The cells of a path: where each stands, that it is below the total, and that none comes twice.
-use Rattle.std.proofs.Common.{◌≡◌, ℕ, zero, suc, ◌+◌, ◌-◌, ◌*◌, ◌/◌, ◌%◌, ◌^◌, ◌<◌, ◌≤◌, true, List, length, get_or, sym, refl, ap, ◌∙◌, inl, inr, mod-lt, mul_comm, add-mul, one-mul, div-add-mod', arith}
+use Rattle.std.proofs.Common.{◌≡◌, ℕ, suc, ◌+◌, ◌*◌, ◌/◌, ◌%◌, ◌^◌, ◌<◌, ◌≤◌, true, length, get_or, sym, ap, ◌∙◌, inl, inr, mod-lt, mul_comm, add-mul, one-mul, div-add-mod', arith}
 use lib.Arith.{digits_lt}
-use Rattle.std.specs.List.{range_with_len, AllByRecursion}
+use Rattle.std.specs.List.{AllByRecursion}
 use Rattle.std.proofs.lemmas.Nat.{div_below, mul-le}
 use Rattle.std.proofs.lemmas.List.FromFn.{get_or-map-range_with_len, length-map-range_with_len}
 use Rattle.std.proofs.ByRecursion.{All-from_get_or}
 use Rattle.std.proofs.lemmas.Bool.{cases_order}
 use Rattle.trees.specs.Settings.{RuleSettings, scheme_takes}
-use Rattle.trees.specs.Geometry.{first_cell, span}
+use Rattle.trees.specs.Geometry.{first_cell}
 use Rattle.trees.specs.Paths.{index_at, node_at, cell_at, tries_at, path_from}
 use Rattle.trees.specs.Refusal.{total_of}
 use Rattle.trees.proofs.Geometry.{first_cell_rises}

@@ -1,8 +1,7 @@
 -- The node of a path at a level is one of that level's.
-use Rattle.std.proofs.Common.{◌≡◌, ℕ, zero, suc, ◌+◌, ◌-◌, ◌*◌, ◌/◌, ◌%◌, ◌^◌, ◌<◌, ◌≤◌, true, eqb, ltb, List, sym, refl, ap, ◌∙◌, mod-lt, mul_comm, add_comm, pow-suc, mul-zero, mul-one, arith}
+use Rattle.std.proofs.Common.{◌≡◌, ℕ, zero, suc, ◌+◌, ◌-◌, ◌*◌, ◌/◌, ◌%◌, ◌^◌, ◌<◌, ◌≤◌, true, List, sym, refl, ap, ◌∙◌, mod-lt, mul_comm, pow-suc, mul-zero, arith}
 use native.Mathlib.Nat.{pow-zero}
 use lib.Arith.{digits_lt}
-use lib.Count.{count_trailing_zeros}
 use Rattle.std.proofs.lemmas.Nat.{div_below, mul-le, shr_below, pow-add, pow_pos, trailing_le}
 use Rattle.std.proofs.lemmas.Bool.{and_parts, eqb-true}
 use Rattle.keys.specs.Hashes.{modulus}
@@ -11,7 +10,7 @@ use Rattle.trees.specs.declared.settings.Scheme.{Scheme}
 use Rattle.trees.specs.declared.settings.Scheme.TheVariants.{Thin, Fat, Trie}
 use Rattle.trees.specs.Settings.{RuleSettings, scheme_takes, log_two}
 use Rattle.trees.specs.Geometry.{span}
-use Rattle.trees.specs.Paths.{hashed, thin_range, bits_of, value_at, child_at, node_above, node_at}
+use Rattle.trees.specs.Paths.{hashed, bits_of, value_at, child_at, node_above, node_at}
 use Rattle.trees.proofs.Geometry.{span_some}
 
 -- Nodes that go from a node above to one of its k children, and to the only one at level 0.

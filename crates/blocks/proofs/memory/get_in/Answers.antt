@@ -1,5 +1,5 @@
 -- The block of a group that is there and live is asked.
-use Rattle.std.proofs.Common.{◌-◌, List, ap, ◌∙◌, arith}
+use Rattle.std.proofs.Common.{List, ap, ◌∙◌, arith}
 use Rattle.keeps.specs.Groups.{in_slot}
 use Rattle.blocks.specs.Blocks.{pairs_in, used_in}
 use Rattle.blocks.proofs.Group.{block_cut, get_standing}

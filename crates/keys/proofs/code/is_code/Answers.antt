@@ -1,7 +1,6 @@
 -- Each turn takes one byte off what is left.
-use Rattle.std.proofs.Common.{◌≡◌, ◌+◌, false, get_or, drop, sym, ◌∙◌, arith}
+use Rattle.std.proofs.Common.{◌+◌, get_or, drop, sym, ◌∙◌, arith}
 use Rattle.std.proofs.lemmas.List.{at_drop_more, at_drop_all}
-use Rattle.keys.specs.Codes.{code_admissible}
 use Rattle.keys.proofs.Codes.{code_from, refused_from, goes_from, admissible_is}
 use Rattle.keys.proofs.code.is_code.Goals as goal
 

@@ -1,5 +1,5 @@
 -- Each turn puts one byte more behind the number.
-use Rattle.std.proofs.Common.{◌≡◌, ◌+◌, ◌*◌, ◌%◌, get_or, sym, ap, ◌∙◌, arith}
+use Rattle.std.proofs.Common.{◌+◌, ◌*◌, ◌%◌, get_or, sym, ap, ◌∙◌, arith}
 use Rattle.std.proofs.lemmas.List.{take_all}
 use Rattle.keys.specs.Hashes.{fold_of, modulus}
 use Rattle.keys.proofs.Folds.{fold_more, fold_below}

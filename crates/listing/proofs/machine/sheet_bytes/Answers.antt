@@ -1,5 +1,5 @@
 -- A sheet number that was taken is not past the largest.
-use Rattle.std.proofs.Common.{◌≡◌, ◌≤◌, Ok, sym, ap, ◌∙◌, arith}
+use Rattle.std.proofs.Common.{◌≤◌, Ok, sym, ap, ◌∙◌, arith}
 use Rattle.std.proofs.lemmas.Bool.{cond-true, le-leb}
 use Rattle.keys.specs.Sheets.{largest_sheet, sheet_bytes}
 use Rattle.listing.proofs.machine.sheet_bytes.Goals as goal

@@ -1,5 +1,5 @@
 -- Each turn looks at one level more.
-use Rattle.std.proofs.Common.{◌≡◌, ℕ, ◌+◌, ◌-◌, List, drop, Some, None, sym, refl, ap, ◌∙◌, arith}
+use Rattle.std.proofs.Common.{◌≡◌, ℕ, ◌-◌, List, drop, Some, sym, ap, ◌∙◌, arith}
 use Rattle.trees.specs.declared.settings.Coefficient.{Coefficient}
 use Rattle.trees.specs.Refusal.{lowest_unfit}
 use Rattle.trees.proofs.Coefficients.{missing, unfit, fits_on, extra, no_extra}

@@ -1,5 +1,5 @@
 -- What was copied stands in front of what is left of the table.
-use Rattle.std.proofs.Common.{◌≡◌, ◌-◌, List, ◌++◌, length, replicate, ap, ◌∙◌, arith}
+use Rattle.std.proofs.Common.{◌-◌, List, ◌++◌, length, replicate, ap, ◌∙◌, arith}
 use borrow.Rule.Slice.PartMut.{post_of, Post-is}
 use Rattle.std.proofs.lemmas.List.{drop-replicate}
 use Rattle.trees.specs.declared.settings.Coefficient.{Coefficient}

@@ -1,5 +1,5 @@
 -- One level down, for a descent that has come there by this rule.
-use Rattle.std.proofs.Common.{◌≡◌, ◌<◌, sym, refl, ap, arith}
+use Rattle.std.proofs.Common.{◌<◌, refl, ap, arith}
 use Rattle.paths.proofs.Descents.{value_there, node_there, stage_below, tries_there}
 use Rattle.paths.proofs.rule_path.below.Goals as goal
 

@@ -1,5 +1,5 @@
 -- Above level 0 the span is that of one node.
-use Rattle.std.proofs.Common.{◌≡◌, sym}
+use Rattle.std.proofs.Common.{sym}
 use Rattle.trees.proofs.Geometry.{span_top}
 use Rattle.paths.proofs.rule_path.top.Goals as goal
 

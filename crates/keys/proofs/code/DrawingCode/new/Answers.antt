@@ -2,7 +2,7 @@
 use Rattle.std.proofs.Common.{◌≡◌, ℕ, ◌+◌, ◌-◌, ◌<◌, ◌≤◌, true, false, eqb, List, [], ◌∷◌, ◌++◌, length, get_or, take, set, replicate, is_some, sym, ap, ◌∙◌, arith}
 use Rattle.std.proofs.lemmas.List.{take_more, take_all, length-take-le}
 use Rattle.std.proofs.lemmas.Bool.{eqb-false, and_right}
-use Rattle.keys.specs.Codes.{all_of_code, of_code, code_text, code_admissible, padded}
+use Rattle.keys.specs.Codes.{all_of_code, of_code, code_admissible, padded}
 use Rattle.keys.proofs.Codes.{first_byte, all_of_code_push, not_all_of_code, padded_more, padded_admissible, code_text_from}
 use Rattle.keys.proofs.code.DrawingCode.new.Goals as goal
 

@@ -1,7 +1,6 @@
 -- A rule that passed every check is one that nothing refuses, with the settings that were asked for.
-use Rattle.std.proofs.Common.{◌≡◌, None, sym, ap, ◌∙◌}
+use Rattle.std.proofs.Common.{sym, ap, ◌∙◌}
 use Rattle.trees.specs.Refusal.{rule_refusal}
-use Rattle.paths.specs.Rules.{settings_of}
 use Rattle.paths.proofs.Making.{at_most_16, table_fits, table_holds, not_refused, fits_size, shaped}
 use Rattle.paths.proofs.rule.Rule.new.Goals as goal
 

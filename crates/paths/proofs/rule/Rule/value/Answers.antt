@@ -1,9 +1,8 @@
 -- The table holds the level's coefficients, which fit; a descent of this rule has the level's own span.
-use Rattle.std.proofs.Common.{◌≡◌, ◌<◌, ◌≤◌, max, length, sym, ◌∙◌, arith}
+use Rattle.std.proofs.Common.{◌≡◌, ◌≤◌, ◌∙◌, arith}
 use Rattle.trees.specs.Geometry.{span}
 use Rattle.trees.proofs.Coefficients.{fit_at}
 use Rattle.trees.proofs.Geometry.{span_some}
-use Rattle.paths.specs.declared.rule.Rule.{Rule}
 use Rattle.paths.proofs.Values.{thin_value, fat_value}
 use Rattle.paths.proofs.rule.Rule.value.Goals as goal
 

@@ -1,9 +1,8 @@
 -- Each turn goes one level down; past the limit no deeper level comes back below it.
-use Rattle.std.proofs.Common.{◌≡◌, ◌+◌, ◌*◌, ◌<◌, ◌≤◌, sym, refl, ap, ◌∙◌, arith}
+use Rattle.std.proofs.Common.{◌≡◌, ◌+◌, ◌*◌, ◌<◌, sym, refl, ap, ◌∙◌, arith}
 use Rattle.std.proofs.lemmas.Nat.{mul-le}
-use Rattle.trees.specs.Geometry.{first_cell, span, largest_total}
+use Rattle.trees.specs.Geometry.{first_cell, largest_total}
 use Rattle.trees.specs.Refusal.{sized}
-use Rattle.paths.specs.declared.shape.Shape.{Shape}
 use Rattle.trees.proofs.Geometry.{span_top, span_more, first_cell_more, first_cell_rises, sized-small, sized_large, first_cell-asked}
 use Rattle.paths.proofs.shape.Shape.first_cell.Goals as goal
 

@@ -1,5 +1,5 @@
 -- An accepted write leaves that cell written and no other changed.
-use Rattle.std.proofs.Common.{◌≡◌, arith, rules}
+use Rattle.std.proofs.Common.{arith, rules}
 use Rattle.plates.proofs.Cells.{cell_after, same_count}
 use Rattle.plates.proofs.plate.PlateStore.write.Goals as goal
 
