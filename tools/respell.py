@@ -23,7 +23,6 @@ WORDS = set(
 )
 
 NAME = r"[^\s(){}:.,;◌]+"
-DECLARED = re.compile(r"^(\s*)(?:pub |abbrev |unfoldable )*(?:(record|data) )?(" + NAME + r")(?: :(?!:)| \(| \{)(.*)$")
 SIGNED = re.compile(r"^(\s*)(?:pub |abbrev |unfoldable )*(?:(record|data) )?(" + NAME + r") (?:.* )?:(?!:)(.*)$")
 KEYWORDS = {"use", "module", "unfolding", "mod", "ruleset", "infix", "infixl", "infixr", "|", "∙", "let", "pub", "--"}
 TOKEN = re.compile(r"(?<![\w'-])([A-Za-z][\w']*(?:-[\w']+)+)(?![\w'-])")
@@ -59,7 +58,7 @@ class Names:
         for line in text_of(path).splitlines():
             found = SIGNED.match(line)
             if not line.startswith(" "):
-                within = line.split(" ")[0:1] != [] and re.match(r"(pub )?(record|data) ", line) is not None
+                within = re.match(r"(pub )?(record|data) ", line) is not None
             if not found or found.group(3) in KEYWORDS or line.lstrip().startswith(("use ", "pub use ", "--", "let ")):
                 continue
             indent, _kind, name, rest = found.groups()

@@ -55,7 +55,7 @@ pub fn entry_of<K: Key>(cell: &[u8]) -> Option<Entry>
 // The bytes of an entry, one by one.
 fn listed(kind: u8, key: &[u8; 12], group: u16, slot: u32, filing: u32) -> [u8; 24]
     ensures value { result ≡ one_by_one kind key.now group slot filing }
-    ensures fits { Fits (record { key = key.entry.now; group = group; slot = slot; filing = filing }) }
+    ensures fits { Fits (record { key = key.now; group = group; slot = slot; filing = filing }) }
 {
     let [g1, g0] = group.to_be_bytes();
     let [s3, s2, s1, s0] = slot.to_be_bytes();

@@ -16,8 +16,8 @@ EqualBytes keep one other =
 
 -- Two keeps of one make with equal numbers, whose histories differed only in the cells and locators of one group, hold equal bytes
 -- after what was done to them: nothing of that group is left to recover.
-abbrev pub NoTrace : {K : Type 0} → KeepOf K → (group : ℕ) (one other one-after other_After : K) → Type 0
-NoTrace keep group one other one-after other_After =
+abbrev pub NoTrace : {K : Type 0} → KeepOf K → (group : ℕ) (one other one_after other_after : K) → Type 0
+NoTrace keep group one other one_after other_after =
     (puts others : List Put) (gone : ℕ → Bool) → keep.numbers one ≡ keep.numbers other
     → Holds keep one puts gone → Holds keep other others gone → AlikeBut group puts others
-    → keep.bytes one-after ≡ keep.bytes other_After
+    → keep.bytes one_after ≡ keep.bytes other_after
