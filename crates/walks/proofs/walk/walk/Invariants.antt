@@ -1,7 +1,5 @@
 -- The cells so far were passed over: the walk from the path's start is the walk from here on.
-use Prim.Native.Nat.{ℕ, ◌+◌, ◌*◌}
-use mathlib.Core.Path.{◌≡◌}
-use lib.ListN.{drop}
+use Rattle.std.proofs.Common.{◌≡◌, ℕ, ◌+◌, ◌*◌, drop}
 use Rattle.law.specs.Archive.{walk}
 use Rattle.walks.specs.Parts.{settings_with}
 use Rattle.walks.proofs.walk.walk.Given as goal
