@@ -1,3 +1,4 @@
+pub mod Lists
 pub mod Numbers
 pub mod Overwrites
 pub mod Parts

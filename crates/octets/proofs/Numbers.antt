@@ -1,12 +1,12 @@
 -- Numbers and their bytes, over any count of bytes: each determines the other.
-use Rattle.std.proofs.Common.{◌≡◌, ℕ, zero, suc, ◌+◌, ◌*◌, ◌/◌, ◌%◌, ◌^◌, ◌<◌, ◌≤◌, ltb, List, [], ◌∷◌, ◌++◌, length, take, drop, set, Some, None, sym, refl, ap, ◌∙◌, inl, inr, mod-lt, mod-eq_of_lt, mul_assoc, mul_comm, add-mul, pow-suc, zero-add, arith}
+use Rattle.std.proofs.Common.{◌≡◌, ℕ, zero, suc, ◌+◌, ◌*◌, ◌/◌, ◌%◌, ◌^◌, ◌<◌, ◌≤◌, ltb, List, [], ◌∷◌, ◌++◌, length, take, drop, set, Some, None, sym, refl, ap, ◌∙◌, inl, inr, mod-lt, mod-eq_of_lt, mul_assoc, mul_comm, add-mul, pow-suc, zero-add, arith, get_or, pow_mono}
 use native.Mathlib.Nat.{mod-one, div-div-eq-div-mul}
 use lib.Arith.{mod-mul}
 use Rattle.std.specs.Int.Digits.{number_from_digits_after, AllBelowBase}
 use Rattle.std.proofs.lemmas.Int.Digits.{number_after_append, number_lt, number_after_ge}
-use Rattle.std.proofs.lemmas.Nat.{div-mul-add, mod-mul-add}
+use Rattle.std.proofs.lemmas.Nat.{div-mul-add, mod-mul-add, pow-add}
 use Rattle.std.proofs.lemmas.List.{take-append-drop, append_assoc, drop-set}
-use Rattle.std.proofs.lemmas.Bool.{cases_cond}
+use Rattle.std.proofs.lemmas.Bool.{cases_cond, cond_below}
 use Rattle.octets.specs.Numbers.{spelled, big_endian, in_64_bits}
 
 -- Bytes behind the number n: n moves up by their count.
@@ -103,3 +103,36 @@ big_endian_more i r xs ys l e =
     ∙ ap (λ zs. zs ++ drop (i + 1) xs) (big_endian_push i r)
     ∙ append_assoc (big_endian i (r / 256)) (r % 256 ∷ []) (drop (i + 1) xs)
     ∙ ap (λ z. big_endian i (r / 256) ++ z) (sym (drop-set xs i (r % 256) l))
+
+-- Bytes that are each below 256, as a recursion over the list has it.
+pub under_each : (xs : List ℕ) → ((i : ℕ) → get_or xs i 0 < 256) → AllBelowBase 256 xs
+under_each [] h = tt
+under_each (x ∷ xs) h = (h 0, under_each xs (λ i. h (suc i)))
+
+-- A byte is 8 bits.
+bits_of_bytes : (n : ℕ) → 256 ^ n ≡ 2 ^ (n * 8)
+bits_of_bytes zero = refl
+bits_of_bytes (suc n) =
+    let e : suc n * 8 ≡ n * 8 + 8 = omega arith in
+    let p : 2 ^ (suc n * 8) ≡ 2 ^ (n * 8) * 256 = ap (λ m. 2 ^ m) e ∙ pow-add 2 (n * 8) 8 in
+    omega (arith, p, pow-suc 256 n, bits_of_bytes n)
+
+-- Parts of bytes are bytes.
+pub under_take : (n : ℕ) (xs : List ℕ) → AllBelowBase 256 xs → AllBelowBase 256 (take n xs)
+under_take zero xs h = tt
+under_take (suc n) [] h = tt
+under_take (suc n) (x ∷ xs) h = (h.0, under_take n xs h.1)
+
+pub under_drop : (n : ℕ) (xs : List ℕ) → AllBelowBase 256 xs → AllBelowBase 256 (drop n xs)
+under_drop zero xs h = h
+under_drop (suc n) [] h = tt
+under_drop (suc n) (x ∷ xs) h = under_drop n xs h.1
+
+-- What few bytes spell is below the bound of so many, and 8 of them fit 64 bits.
+pub small_of_few : (bs : List ℕ) (count : ℕ) → AllBelowBase 256 bs → length bs ≤ count → spelled bs < 2 ^ (count * 8)
+small_of_few bs count under few =
+    let g : length bs * 8 ≤ count * 8 = omega arith in
+    omega (arith, bits_of_bytes (length bs), number_lt 256 bs under, pow_mono g)
+
+pub held_of_few : (bs : List ℕ) → AllBelowBase 256 bs → length bs ≤ 8 → in_64_bits (spelled bs) ≡ Some (spelled bs)
+held_of_few bs under few = sym (cond_below (spelled bs) (2 ^ 64) (Some (spelled bs)) None (small_of_few bs 8 under few))

@@ -27,6 +27,14 @@ put_part_if false at k m memory put part e f l =
 pub written_where_it_fits : (at k : ℕ) (part memory new : List ℕ) (fits : Bool) → fits ≡ leb (at + k) (length memory) → new ≡ cond fits (overwritten at part memory) memory → at + k ≤ length memory → new ≡ overwritten at part memory
 written_where_it_fits at k part memory new fits e f h = f ∙ cond-true fits _ _ (e ∙ le-leb (at + k) (length memory) h)
 
+-- A part that is written where a front ends stands behind that front.
+pub written_behind : (front rest part : List ℕ) (at : ℕ) → length front ≡ at → overwritten at part (front ++ rest) ≡ (front ++ part) ++ drop (length part) rest
+unfolding overwritten
+written_behind front rest part at e =
+    ap (λ ys. ys ++ (part ++ drop (at + length part) (front ++ rest))) (take_at front rest at e)
+    ∙ ap (λ ys. front ++ (part ++ ys)) (sym (drop-drop (length part) at (front ++ rest)) ∙ ap (drop (length part)) (drop_at front rest at e))
+    ∙ sym (append_assoc front part (drop (length part) rest))
+
 module _ (at : ℕ) (part memory : List ℕ) (fits : at + length part ≤ length memory) where
   front : length (take at memory) ≡ at
   front = simp length-take (omega arith)

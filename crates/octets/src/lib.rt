@@ -26,9 +26,8 @@ pub fn write_number(bytes: &mut [u8], value: u64)
     ensures { bytes.new ≡ big_endian (length bytes.old) value }
 {
     let mut rest = value;
-    let mut i = bytes.len();
-    while i > 0 {
-        i -= 1;
+    // Places, and no `iter_mut().rev()`: what is written through that is not known after it.
+    for i in (0..bytes.len()).rev() {
         bytes[i] = (rest % 256) as u8;
         rest /= 256;
     }

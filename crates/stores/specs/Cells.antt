@@ -1,5 +1,5 @@
 -- What a store answers and leaves, by its size, what its cells hold and which of them can be taken.
-use Rattle.std.specs.Prelude.{ℕ, Bool, true, false, cond, List, length, replicate, Ok, Err, Result, ◌==◌, nat_lt}
+use Rattle.std.specs.Prelude.{ℕ, Bool, true, false, cond, List, length, replicate, Option, Some, None, Ok, Err, Result, ◌==◌, nat_lt}
 use Rattle.stores.specs.declared.fault.StoreFault.{StoreFault}
 use Rattle.stores.specs.declared.fault.StoreFault.TheVariants.{Length, Beyond, Written, NoCell}
 
@@ -20,6 +20,18 @@ is_written (written x) = true
 abbrev pub content : Cell → List ℕ
 content blank = replicate cell_length 0
 content (written x) = x
+
+-- What every read and write looks at first.
+abbrev pub check_answer : (size at long : ℕ) → Result (Unit {0}) StoreFault
+check_answer size at long = cond (long == cell_length) (cond (nat_lt at size) (Ok tt) (Err (Beyond at))) (Err Length)
+
+-- What a cell holds, nothing where it is blank.
+abbrev pub held_in : Cell → Option (List ℕ)
+held_in blank = None
+held_in (written x) = Some x
+
+abbrev pub held_answer : (size : ℕ) (cell : ℕ → Cell) (at : ℕ) → Result (Option (List ℕ)) StoreFault
+held_answer size cell at = cond (nat_lt at size) (Ok (held_in (cell at))) (Err (Beyond at))
 
 abbrev pub read_answer : (size : ℕ) (cell : ℕ → Cell) (at long : ℕ) → Result Bool StoreFault
 read_answer size cell at long =

@@ -1,6 +1,8 @@
 // Why a store refuses.
-ghost use Rattle.std.specs.Prelude.{◌≡◌};
+ghost use Rattle.std.specs.Prelude.{◌≡◌, None};
 ghost use Rattle.stores.specs.Refusal.{store_number, store_detail, at_own, seen_as, set_up_number};
+
+use refusals::Refusal;
 
 #[derive(Clone, Copy, PartialEq, Eq, Debug)]
 pub enum StoreFault {
@@ -14,11 +16,12 @@ pub enum StoreFault {
     NoCell(u32),
 }
 
-impl StoreFault {
-    // The refusal's number.
-    pub fn number(&self) -> u32
-        ensures { result ≡ store_number self.now }
-    {
+impl Refusal for StoreFault {
+    ghost number_of = { store_number };
+
+    ghost detail_of = { store_detail };
+
+    fn number(&self) -> u32 {
         match self {
             StoreFault::Length => 14,
             StoreFault::Beyond(_) => 11,
@@ -27,10 +30,7 @@ impl StoreFault {
         }
     }
 
-    // The refusal's detail.
-    pub fn detail(&self) -> Option<u64>
-        ensures { result ≡ store_detail self.now }
-    {
+    fn detail(&self) -> Option<u64> {
         match self {
             StoreFault::Length => None,
             StoreFault::Beyond(cell) | StoreFault::Written(cell) | StoreFault::NoCell(cell) => {
@@ -38,7 +38,9 @@ impl StoreFault {
             }
         }
     }
+}
 
+impl StoreFault {
     // The same refusal, with the number that the cell has in a store above.
     pub fn renumbered(self, cell: u32) -> StoreFault
         ensures { result ≡ at_own cell self }
@@ -56,10 +58,7 @@ impl StoreFault {
 pub fn seen_from_above<T>(answer: Result<T, StoreFault>, cell: u32) -> Result<T, StoreFault>
     ensures { result ≡ seen_as cell answer }
 {
-    match answer {
-        Ok(value) => Ok(value),
-        Err(fault) => Err(fault.renumbered(cell)),
-    }
+    answer.map_err(|fault| fault.renumbered(cell))
 }
 
 // Why a store cannot be set up or opened.
@@ -71,14 +70,19 @@ pub enum SetUpFault {
     Size,
 }
 
-impl SetUpFault {
-    // The refusal's number.
-    pub fn number(&self) -> u32
-        ensures { result ≡ set_up_number self.now }
-    {
+impl Refusal for SetUpFault {
+    ghost number_of = { set_up_number };
+
+    ghost detail_of = { λ f. None };
+
+    fn number(&self) -> u32 {
         match self {
             SetUpFault::Setting => 1,
             SetUpFault::Size => 3,
         }
+    }
+
+    fn detail(&self) -> Option<u64> {
+        None
     }
 }

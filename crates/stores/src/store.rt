@@ -1,6 +1,6 @@
 // What a store is.
 ghost use Rattle.std.specs.Prelude.{◌≡◌, ℕ, Bool, false, length, is_ok};
-ghost use Rattle.stores.specs.Cells.{Cell, read_answer, read_fill, write_answer, after_write};
+ghost use Rattle.stores.specs.Cells.{Cell, check_answer, held_answer, read_answer, read_fill, write_answer, after_write};
 ghost use Rattle.stores.specs.Laws.{StoreLaws};
 
 use crate::fault::StoreFault;
@@ -30,7 +30,8 @@ pub trait Store {
     fn can_take(&self, at: u32) -> bool
         ensures { result ≡ takes self.now at };
 
-    // Fills the buffer with the cell, or with zeros where it is blank, and says whether it is written.
+    // Fills the buffer with the cell, or with zeros where it is blank, and says whether it is written. The rules let the
+    // reader lend a buffer of any length, so the flag stands beside it; `held` gives both as one.
     fn read(&self, at: u32, buffer: &mut [u8]) -> Result<bool, StoreFault>
         ensures value { result ≡ read_answer (cells self.now) (cell self.now) at (length buffer.old) }
         ensures after { buffer.new ≡ read_fill (cells self.now) (cell self.now) at buffer.old };
@@ -41,4 +42,26 @@ pub trait Store {
         ensures after { (d : ℕ) → cell self.new d ≡ after_write result (cell self.old) at bytes.now d }
         ensures size { cells self.new ≡ cells self.old }
         ensures same { is_ok result ≡ false → self.new ≡ self.old };
+
+    // What every read and write looks at first: 14 LENGTH, then 11 BEYOND.
+    fn check(&self, at: u32, long: usize) -> Result<(), StoreFault>
+        ensures { result ≡ check_answer (cells self.now) at long }
+    {
+        if long != CELL_LENGTH {
+            return Err(StoreFault::Length);
+        }
+        if at >= self.size() {
+            return Err(StoreFault::Beyond(at));
+        }
+        Ok(())
+    }
+
+    // The bytes of a cell, or nothing where it is blank.
+    fn held(&self, at: u32) -> Result<Option<[u8; CELL_LENGTH]>, StoreFault>
+        ensures { result ≡ held_answer (cells self.now) (cell self.now) at }
+    {
+        let mut bytes = [0; CELL_LENGTH];
+        let written = self.read(at, &mut bytes)?;
+        Ok(written.then_some(bytes))
+    }
 }

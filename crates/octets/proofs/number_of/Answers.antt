@@ -1,9 +1,8 @@
 -- Each turn puts one byte more behind the number; past 2^56 one byte more passes 64 bits.
-use Rattle.std.proofs.Common.{◌+◌, ◌^◌, ◌≤◌, Some, None, refl, ap, ◌∙◌, arith}
+use Rattle.std.proofs.Common.{◌+◌, ◌^◌, ◌≤◌, Some, None, refl, arith}
 use Rattle.std.proofs.lemmas.Int.Digits.{number_more}
-use Rattle.std.proofs.lemmas.List.{take_all}
-use Rattle.std.proofs.lemmas.Bool.{cond_below, cond_above}
-use Rattle.octets.specs.Numbers.{spelled, in_64_bits}
+use Rattle.std.proofs.lemmas.Bool.{cond_above}
+use Rattle.octets.specs.Numbers.{spelled}
 use Rattle.octets.proofs.Numbers.{spelled_front}
 use Rattle.octets.proofs.number_of.Goals as goal
 
@@ -18,8 +17,3 @@ pub loop-b-preserved : goal.loop-b-preserved
 loop-b-preserved c =
     let one_more = number_more 256 c.args.bytes.now c.loop-b.b-index (omega arith) in
     (omega (arith, one_more), omega arith)
-
-pub returns : goal.returns
-returns c =
-    let e = c.loop-b.invariant.0 ∙ ap spelled (take_all c.loop-b.b-index c.args.bytes.now (omega arith)) in
-    cond_below c.loop-b.number (2 ^ 64) (Some c.loop-b.number) None (omega arith) ∙ ap in_64_bits e

@@ -1,14 +1,8 @@
 -- Each turn puts one byte more before those that are done.
-use Rattle.std.proofs.Common.{◌≡◌, ℕ, ◌+◌, ◌-◌, ◌%◌, ◌++◌, length, drop, sym, ap, ◌∙◌, arith, length-set}
-use Rattle.std.proofs.lemmas.List.{drop_all, append-nil}
+use Rattle.std.proofs.Common.{◌≡◌, ℕ, ◌+◌, ◌-◌, ◌%◌, ◌++◌, length, drop, ap, ◌∙◌, arith, length-set}
 use Rattle.octets.specs.Numbers.{big_endian}
 use Rattle.octets.proofs.Numbers.{big_endian_more}
 use Rattle.octets.proofs.write_number.Goals as goal
-
-pub loop-i-init : goal.loop-i-init
-loop-i-init c =
-    let xs = c.args.bytes.now in
-    (omega arith, sym (ap (λ ys. big_endian (length xs) c.args.value ++ ys) (drop_all (length xs) xs (omega arith)) ∙ append-nil (big_endian (length xs) c.args.value)))
 
 pub loop-i-preserved : goal.loop-i-preserved
 loop-i-preserved c =
@@ -21,8 +15,3 @@ loop-i-preserved c =
       ap (λ n. big_endian n c.args.value) l
           ∙ big_endian_more i r xs (big_endian (length xs) c.args.value) (omega arith) (c.loop-i.invariant.1 ∙ ap (λ (j : ℕ). big_endian j r ++ drop j xs) e),
     )
-
-pub returns : goal.returns
-returns c =
-    let z : c.loop-i.i ≡ 0 = omega arith in
-    sym (ap (λ n. big_endian n c.args.value) (sym c.loop-i.auto.bytes) ∙ c.loop-i.invariant.1 ∙ ap (λ (i : ℕ). big_endian i c.loop-i.rest ++ drop i c.loop-i.bytes) z)

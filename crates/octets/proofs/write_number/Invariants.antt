@@ -5,6 +5,3 @@ use Rattle.octets.proofs.write_number.Given as goal
 
 abbrev pub invariant-loop-i : goal.invariant-loop-i
 invariant-loop-i l = (l.i ≤ length l.bytes) × (big_endian (length l.bytes) l.value ≡ big_endian l.i l.rest ++ drop l.i l.bytes)
-
-abbrev pub decreases-loop-i : goal.decreases-loop-i
-decreases-loop-i l = l.i
