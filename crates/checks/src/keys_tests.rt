@@ -1,5 +1,5 @@
 // Keys: what is admissible and what is not, and the published vectors of FNV-1a.
-use crate::refusals::refused_key;
+use crate::outcomes::number_of;
 use keys::code::DrawingCode;
 use keys::hash::{fnv1a, fold};
 use keys::kind::Key;
@@ -14,21 +14,21 @@ fn fnv1a_gives_its_published_vectors(rt: HostRuntime) {
 
 #[test]
 fn a_sheet_number_is_below_p(rt: HostRuntime) {
-    assert_eq!(rt; refused_key(SheetNumber::new(0)), 0);
-    assert_eq!(rt; refused_key(SheetNumber::new(2147483646)), 0);
-    assert_eq!(rt; refused_key(SheetNumber::new(2147483647)), 4);
-    assert_eq!(rt; refused_key(SheetNumber::new(4294967296)), 4);
-    assert_eq!(rt; refused_key(SheetNumber::new(u64::MAX)), 4);
+    assert_eq!(rt; number_of(SheetNumber::new(0)), None);
+    assert_eq!(rt; number_of(SheetNumber::new(2147483646)), None);
+    assert_eq!(rt; number_of(SheetNumber::new(2147483647)), Some(4));
+    assert_eq!(rt; number_of(SheetNumber::new(4294967296)), Some(4));
+    assert_eq!(rt; number_of(SheetNumber::new(u64::MAX)), Some(4));
 }
 
 #[test]
 fn a_code_has_1_to_12_letters_digits_and_hyphens(rt: HostRuntime) {
-    assert_eq!(rt; refused_key(DrawingCode::new(b"A")), 0);
-    assert_eq!(rt; refused_key(DrawingCode::new(b"Z-09AZ-09AZ-")), 0);
-    assert_eq!(rt; refused_key(DrawingCode::new(b"")), 4);
-    assert_eq!(rt; refused_key(DrawingCode::new(b"ABCDEFGHIJKLM")), 4);
-    assert_eq!(rt; refused_key(DrawingCode::new(b"a")), 4);
-    assert_eq!(rt; refused_key(DrawingCode::new(b"A\0")), 4);
+    assert_eq!(rt; number_of(DrawingCode::new(b"A")), None);
+    assert_eq!(rt; number_of(DrawingCode::new(b"Z-09AZ-09AZ-")), None);
+    assert_eq!(rt; number_of(DrawingCode::new(b"")), Some(4));
+    assert_eq!(rt; number_of(DrawingCode::new(b"ABCDEFGHIJKLM")), Some(4));
+    assert_eq!(rt; number_of(DrawingCode::new(b"a")), Some(4));
+    assert_eq!(rt; number_of(DrawingCode::new(b"A\0")), Some(4));
 }
 
 #[test]

@@ -4,6 +4,6 @@
 #[cfg(test)]
 mod keys_tests;
 #[cfg(test)]
-mod paths_tests;
+mod outcomes;
 #[cfg(test)]
-mod refusals;
+mod paths_tests;

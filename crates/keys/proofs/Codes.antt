@@ -1,7 +1,7 @@
 -- Reading a drawing code byte by byte, and padding a text to its 12 bytes.
-use Rattle.std.proofs.Common.{◌≡◌, ℕ, zero, suc, ◌+◌, ◌-◌, ◌<◌, ◌≤◌, Bool, true, false, cond, ◌&&◌, eqb, List, [], ◌∷◌, ◌++◌, length, get_or, take, drop, set, replicate, is_some, Some, None, Option, sym, refl, ap, ◌∙◌, inl, inr, arith}
-use Rattle.std.proofs.lemmas.List.{set_at, append_assoc, length-take-le, length-append, length-replicate, take-append-drop}
-use Rattle.std.proofs.lemmas.Bool.{lt-ltb, le-leb, eq-eqb, eqb-true, and_from, and_left, and_right, and_parts, cases_Bool, cond-true, cond-false}
+use Rattle.std.proofs.Common.{◌≡◌, ℕ, zero, suc, ◌+◌, ◌-◌, ◌<◌, ◌≤◌, Bool, true, false, cond, ◌&&◌, eqb, List, [], ◌∷◌, ◌++◌, length, get_or, take, drop, replicate, Some, None, Option, sym, refl, ap, ◌∙◌, inl, inr, arith}
+use Rattle.std.proofs.lemmas.List.{length-take-le, length-append, length-replicate, take-append-drop}
+use Rattle.std.proofs.lemmas.Bool.{lt-ltb, le-leb, eq-eqb, eqb-true, and_from, and_parts, cases_Bool, cond-true, cond-false}
 use Rattle.keys.specs.Codes.{of_code, only_padding, text_then_padding, after_byte, code_admissible, all_of_code, code_text, padded}
 
 abbrev go_on : Option Bool → (Bool → Bool) → Bool
@@ -15,9 +15,6 @@ code_from ended place (b ∷ bs) = go_on (after_byte b ended place) (λ e. code_
 
 pub refused_from : (ended : Bool) (place b : ℕ) (bs : List ℕ) → None ≡ after_byte b ended place → code_from ended place (b ∷ bs) ≡ false
 refused_from ended place b bs h = ap (λ o. go_on o (λ e. code_from e (place + 1) bs)) (sym h)
-
-pub goes_from : (ended : Bool) (place b : ℕ) (bs : List ℕ) (now : Bool) → Some now ≡ after_byte b ended place → code_from ended place (b ∷ bs) ≡ code_from now (place + 1) bs
-goes_from ended place b bs now h = ap (λ o. go_on o (λ e. code_from e (place + 1) bs)) (sym h)
 
 pads : (zero-byte : Bool) (f : Bool → Bool) (p : Bool) → f true ≡ p → go_on (cond (zero-byte && true) (Some true) None) f ≡ (zero-byte && p)
 pads true f p h = h
@@ -51,33 +48,6 @@ admissible_is [] h = absurd (omega arith)
 admissible_is (b ∷ bs) h =
     starts (of_code b) (eqb b 0) (λ e. code_from e (0 + 1) bs) (text_then_padding bs) (eqb b 0 && only_padding bs) (text_from 1 bs (omega arith))
     ∙ ap (λ w. w && (of_code b && text_then_padding (b ∷ bs))) (sym (eq-eqb (length (b ∷ bs)) 12 h))
-
-some_first : (code zero-byte : Bool) → is_some (cond code (Some false) (cond (zero-byte && false) (Some true) None)) ≡ code
-some_first true z = refl
-some_first false true = refl
-some_first false false = refl
-
--- The first byte of a code may be just what its text may be.
-pub first_byte : (b : ℕ) → is_some (after_byte b false 0) ≡ of_code b
-first_byte b = some_first (of_code b) (eqb b 0)
-
-pub all_of_code_push : (xs : List ℕ) (b : ℕ) → all_of_code xs ≡ true → of_code b ≡ true → all_of_code (xs ++ b ∷ []) ≡ true
-all_of_code_push [] b h k = and_from (of_code b) true k refl
-all_of_code_push (x ∷ xs) b h k =
-    let parts = and_parts (of_code x) (all_of_code xs) h in
-    and_from (of_code x) (all_of_code (xs ++ b ∷ [])) parts.0 (all_of_code_push xs b parts.1 k)
-
-pub not_all_of_code : (xs : List ℕ) (i : ℕ) → i < length xs → of_code (get_or xs i 0) ≡ false → all_of_code xs ≡ false
-not_all_of_code [] i h k = absurd (omega arith)
-not_all_of_code (x ∷ xs) zero h k = and_left (of_code x) (all_of_code xs) k
-not_all_of_code (x ∷ xs) (suc i) h k = and_right (of_code x) (all_of_code xs) (not_all_of_code xs i (omega arith) k)
-
--- One byte more of the text, in place of a byte of padding.
-pub padded_more : (xs : List ℕ) (i b : ℕ) → length xs ≡ i → i < 12 → set (xs ++ replicate (12 - i) 0) i b ≡ (xs ++ b ∷ []) ++ replicate (12 - (i + 1)) 0
-padded_more xs i b l h =
-    let one : 12 - i ≡ suc (12 - (i + 1)) = omega arith in
-    ap (λ n. set (xs ++ replicate n 0) i b) one
-    ∙ set_at xs 0 (replicate (12 - (i + 1)) 0) b i l ∙ sym (append_assoc xs (b ∷ []) (replicate (12 - (i + 1)) 0))
 
 only_padding-replicate : (n : ℕ) → only_padding (replicate n 0) ≡ true
 only_padding-replicate zero = refl
@@ -123,6 +93,15 @@ only_padding_is (b ∷ bs) h =
 -- A byte 0 in what is left of a code, and all behind it, is padding.
 pub text_ends : (bs : List ℕ) → text_then_padding (0 ∷ bs) ≡ true → 0 ∷ bs ≡ replicate (length (0 ∷ bs)) 0
 text_ends bs h = only_padding_is (0 ∷ bs) h
+
+-- In front of a place behind no byte 0 there is text, and text and then padding from there on.
+pub text_until : (bs : List ℕ) (i : ℕ) → text_then_padding bs ≡ true → i ≤ length bs → ((k : ℕ) → k < i → get_or bs k 0 ≡ 0 → ⊥) → (all_of_code (take i bs) ≡ true) × (text_then_padding (drop i bs) ≡ true)
+text_until bs zero h few some = (refl, h)
+text_until [] (suc i) h few some = absurd (omega arith)
+text_until (b ∷ bs) (suc i) h few some =
+    let on = text_goes_on b bs h (some 0 (omega arith)) in
+    let more = text_until bs i on.1 (omega arith) (λ k lt. some (suc k) (omega arith)) in
+    (and_from (of_code b) (all_of_code (take i bs)) on.0 more.0, more.1)
 
 module _ (bytes : List ℕ) (i : ℕ) (long : length bytes ≡ 12) (code : all_of_code (take i bytes) ≡ true) where
   front : i ≤ 12 → length (take i bytes) ≡ i

@@ -1,13 +1,13 @@
 -- Drawing codes: 1 to 12 letters, digits and hyphens, then zero bytes up to 12.
 use Rattle.std.specs.Prelude.{ℕ, ◌-◌, Bool, true, false, cond, ◌&&◌, ◌||◌, List, [], ◌∷◌, ◌++◌, length, replicate, Some, None, Option, ◌==◌, nat_le, nat_lt, slice_index}
+use Rattle.std.specs.List.{list_all}
 
 -- A to Z, 0 to 9 and the hyphen.
 abbrev pub of_code : ℕ → Bool
 of_code b = (nat_le 65 b && nat_le b 90) || (nat_le 48 b && nat_le b 57) || b == 45
 
 abbrev pub only_padding : List ℕ → Bool
-only_padding [] = true
-only_padding (b ∷ bs) = b == 0 && only_padding bs
+only_padding bytes = list_all (λ b. b == 0) bytes
 
 abbrev pub text_then_padding : List ℕ → Bool
 text_then_padding [] = true
@@ -29,8 +29,7 @@ padded text = text ++ replicate (12 - length text) 0
 
 -- Which texts are drawing codes: as they are written, with no zero byte in them.
 abbrev pub all_of_code : List ℕ → Bool
-all_of_code [] = true
-all_of_code (b ∷ bs) = of_code b && all_of_code bs
+all_of_code text = list_all of_code text
 
 abbrev pub code_text : List ℕ → Bool
 code_text text = (nat_lt 0 (length text) && nat_le (length text) 12) && all_of_code text

@@ -1,6 +1,6 @@
 // Drawing codes: 1 to 12 letters, digits and hyphens.
-ghost use Rattle.std.specs.Prelude.{◌≡◌, true, false, take, MatchResult};
-ghost use Rattle.keys.specs.Codes.{after_byte, code_admissible, code_text, padded};
+ghost use Rattle.std.specs.Prelude.{◌≡◌, ◌==◌, true, false, take, position, MatchResult};
+ghost use Rattle.keys.specs.Codes.{after_byte, all_of_code, code_admissible, code_text, of_code, padded};
 
 use crate::fault::KeyFault;
 
@@ -22,6 +22,27 @@ fn after(byte: u8, ended: bool, place: usize) -> Option<bool>
     }
 }
 
+// Whether a byte may stand in the text of a code: whether it could stand first, which padding could not.
+fn is_of_code(byte: u8) -> bool
+    ensures { result ≡ of_code byte }
+{
+    after(byte, false, 0).is_some()
+}
+
+// Whether all bytes are of a code.
+fn is_text(text: &[u8]) -> bool
+    ensures { result ≡ all_of_code text.now }
+{
+    text.iter().all(|byte| is_of_code(*byte))
+}
+
+// Where the padding begins, if there is any.
+fn first_zero(bytes: &[u8]) -> Option<usize>
+    ensures { result ≡ position (λ b. b == 0) bytes.now }
+{
+    bytes.iter().position(|byte| *byte == 0)
+}
+
 // Whether these are the bytes of a drawing code.
 pub(crate) fn is_code(bytes: &[u8]) -> bool
     ensures { result ≡ code_admissible bytes.now }
@@ -41,20 +62,15 @@ pub(crate) fn is_code(bytes: &[u8]) -> bool
 
 impl DrawingCode {
     // The code with this text; 4 KEY where it is empty, past 12 bytes, or holds another byte than A to Z, 0 to 9 and hyphen.
+    // (A constructor that validates, as that of sheet numbers.)
     pub fn new(text: &[u8]) -> Result<DrawingCode, KeyFault>
         ensures { MatchResult result (λ k. (code_text text.now ≡ true) × (k.bytes ≡ padded text.now)) (λ _. code_text text.now ≡ false) }
     {
-        if text.is_empty() || text.len() > 12 {
+        if text.is_empty() || text.len() > 12 || !is_text(text) {
             return Err(KeyFault::Inadmissible);
         }
         let mut bytes = [0; 12];
-        for (place, byte) in text.iter().enumerate() {
-            // In the text a byte must be one that could stand first: padding could not.
-            if after(*byte, false, 0).is_none() {
-                return Err(KeyFault::Inadmissible);
-            }
-            bytes[place] = *byte;
-        }
+        bytes[..text.len()].copy_from_slice(text);
         Ok(DrawingCode { bytes })
     }
 
@@ -63,12 +79,9 @@ impl DrawingCode {
         ensures text { code_text (take result self.now.bytes) ≡ true }
         ensures rest { self.now.bytes ≡ padded (take result self.now.bytes) }
     {
-        let bytes = self.bytes;
-        for (place, byte) in bytes.iter().enumerate() {
-            if *byte == 0 {
-                return place;
-            }
+        match first_zero(&self.bytes) {
+            Some(place) => place,
+            None => 12,
         }
-        12
     }
 }

@@ -1,6 +1,7 @@
 // Why bytes, a number or a text are refused as a key.
-ghost use Rattle.std.specs.Prelude.{◌≡◌};
 ghost use Rattle.keys.specs.Refusal.{key_number, key_detail};
+
+use refusals::Refusal;
 
 #[derive(Clone, Copy, PartialEq, Eq, Debug)]
 pub enum KeyFault {
@@ -8,20 +9,18 @@ pub enum KeyFault {
     Inadmissible,
 }
 
-impl KeyFault {
-    // The refusal's number.
-    pub fn number(&self) -> u32
-        ensures { result ≡ key_number self.now }
-    {
+impl Refusal for KeyFault {
+    ghost number_of = { key_number };
+
+    ghost detail_of = { key_detail };
+
+    fn number(&self) -> u32 {
         match self {
             KeyFault::Inadmissible => 4,
         }
     }
 
-    // The refusal's detail.
-    pub fn detail(&self) -> Option<u64>
-        ensures { result ≡ key_detail self.now }
-    {
+    fn detail(&self) -> Option<u64> {
         match self {
             KeyFault::Inadmissible => None,
         }

@@ -15,7 +15,8 @@ pub struct SheetNumber {
 }
 
 impl SheetNumber {
-    // The sheet of this number; 4 KEY past the largest.
+    // The sheet of this number; 4 KEY past the largest. (A constructor that validates, as `NonZeroU32::new` is: nothing asks for
+    // it through `TryFrom`.)
     pub fn new(number: u64) -> Result<SheetNumber, KeyFault>
         ensures { MatchResult result (λ k. k.number ≡ number) (λ _. largest_sheet < number) }
     {

@@ -3,9 +3,9 @@ use Rattle.std.proofs.Common.{◌≡◌, ℕ, zero, suc, ◌+◌, ◌-◌, ◌*�
 use Rattle.std.proofs.lemmas.List.{get_or-take, get_or_default}
 use Rattle.trees.specs.declared.settings.Coefficient.{Coefficient}
 use Rattle.trees.specs.declared.settings.Scheme.{Scheme}
-use Rattle.trees.specs.declared.settings.Scheme.TheVariants.{Thin, Fat}
+use Rattle.trees.specs.declared.settings.Scheme.TheVariants.{Fat}
 use Rattle.trees.specs.Geometry.{span}
-use Rattle.trees.specs.Paths.{bits_of, coefficient_at, hashed, thin_range, value_at, value_by}
+use Rattle.trees.specs.Paths.{bits_of, coefficient_at, hashed, value_at, value_by}
 use Rattle.trees.specs.Refusal.{coefficients_of}
 use Rattle.paths.specs.declared.rule.Rule.{Rule}
 use Rattle.paths.specs.Rules.{settings_of}
@@ -20,11 +20,6 @@ bits_below w digest (suc above) deep =
     two : (n : ℕ) → suc n + 1 ≡ n + 2
     two n = omega arith
 
--- Below level 0 a thin tree's values have one range.
-pub range_below : (m k level : ℕ) → (level ≡ 0 → ⊥) → m * k ≡ thin_range m k level
-range_below m k zero deep = absurd (deep refl)
-range_below m k (suc above) deep = refl
-
 module _ (r : Rule) (level : ℕ) (held : level < length r.coefficients) where
   from_table : level < coefficients_of r.shape.scheme r.shape.levels → (d : Coefficient) → get_or r.coefficients level d ≡ coefficient_at (settings_of r) level
   from_table low d = get_or_default r.coefficients level d _ held ∙ sym (get_or-take _ r.coefficients level _ low)
@@ -33,11 +28,6 @@ module _ (r : Rule) (level : ℕ) (held : level < length r.coefficients) where
   wants scheme e low = omega (arith, ap (λ x. coefficients_of x r.shape.levels) e)
 
   module _ (hash range : ℕ) (d : Coefficient) (low : level < r.shape.levels) where
-    pub thin_value : r.shape.scheme ≡ Thin → range ≡ thin_range r.shape.cells r.shape.children level → hashed (get_or r.coefficients level d) hash range ≡ value_at (settings_of r) hash level
-    thin_value e k =
-        ap (λ c. hashed c hash range) (from_table (wants Thin e low) d) ∙ ap (hashed (coefficient_at (settings_of r) level) hash) k
-        ∙ ap (λ x. value_by x (settings_of r) hash level) (sym e)
-
     pub fat_value : r.shape.scheme ≡ Fat → range ≡ span r.shape.cells r.shape.children level → hashed (get_or r.coefficients level d) hash range ≡ value_at (settings_of r) hash level
     fat_value e k =
         ap (λ c. hashed c hash range) (from_table (wants Fat e low) d) ∙ ap (hashed (coefficient_at (settings_of r) level) hash) k

@@ -15,10 +15,7 @@ pub fn path_cells<P: PathRule>(
 {
     let mut cells = Vec::new(heap);
     let mut at = rule.start(key);
-    for level in 0..rule.levels() {
-        let Some(tries) = rule.descend(&mut at) else {
-            unreachable()
-        };
+    while let Some(tries) = rule.descend(&mut at) {
         for j in 0..rule.tries() {
             cells.push(tries.cell(j))?;
         }

@@ -1,7 +1,7 @@
 // Making a rule, and refusing what can be none.
-ghost use Rattle.std.specs.Prelude.{◌≡◌, ◌-◌, ◌≤◌, ◌++◌, length, replicate};
+ghost use Rattle.std.specs.Prelude.{◌≡◌, ◌-◌, ◌≤◌, ◌++◌, length, not, position, replicate};
 ghost use Rattle.trees.specs.Refusal.{coefficients_of, lowest_unfit};
-ghost use Rattle.trees.specs.Settings.{wanted};
+ghost use Rattle.trees.specs.Settings.{coefficient_fits, wanted};
 ghost use Rattle.paths.specs.Making.{Made, coefficient_answer};
 
 use crate::rule::{MOST_LEVELS, Rule};
@@ -19,20 +19,26 @@ fn levels_with_coefficients(shape: &Shape) -> u32
     }
 }
 
+// The first that is out of range.
+fn first_unfit(coefficients: &[Coefficient]) -> Option<usize>
+    ensures { result ≡ position (λ c. not (coefficient_fits c)) coefficients.now }
+{
+    coefficients
+        .iter()
+        .position(|coefficient| !coefficient.fits())
+}
+
 // Nothing where each level that wants coefficients has them in range, and no other level has any; else 2 COEFFICIENT.
 fn check_coefficients(shape: &Shape, coefficients: &[Coefficient]) -> Result<(), RuleFault>
     ensures { result ≡ coefficient_answer (lowest_unfit 0 (coefficients_of shape.now.scheme shape.now.levels) coefficients.now) }
 {
     let wanted = levels_with_coefficients(shape) as usize;
-    for level in 0..wanted {
-        if level >= coefficients.len() || !coefficients[level].fits() {
-            return Err(RuleFault::Coefficient(level));
-        }
+    let matched = wanted.min(coefficients.len());
+    match first_unfit(&coefficients[..matched]) {
+        Some(level) => Err(RuleFault::Coefficient(level)),
+        None if matched == wanted.max(coefficients.len()) => Ok(()),
+        None => Err(RuleFault::Coefficient(matched)),
     }
-    if coefficients.len() > wanted {
-        return Err(RuleFault::Coefficient(wanted));
-    }
-    Ok(())
 }
 
 // At most 16 coefficients in a table of 16.
@@ -41,7 +47,7 @@ fn table_of(coefficients: &[Coefficient]) -> [Coefficient; MOST_LEVELS]
     ensures { result ≡ coefficients.now ++ replicate (16 - length coefficients.now) (record { a = 1; b = 0 }) }
 {
     let mut table = [Coefficient { a: 1, b: 0 }; MOST_LEVELS];
-    table[0..coefficients.len()].copy_from_slice(coefficients);
+    table[..coefficients.len()].copy_from_slice(coefficients);
     table
 }
 

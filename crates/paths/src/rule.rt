@@ -9,7 +9,8 @@ use trees::settings::Coefficient;
 // The most levels that a tree has.
 pub const MOST_LEVELS: usize = 16;
 
-// The coefficients stand in a table of the most levels; past the levels of the shape they have no meaning.
+// The coefficients stand in a table of the most levels; past the levels of the shape they have no meaning. A table and no
+// `Vec`: a rule is copied, and making one takes no heap and so cannot run out of memory.
 #[derive(Clone, Copy)]
 pub struct Rule {
     pub(crate) shape: Shape,

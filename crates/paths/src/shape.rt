@@ -33,7 +33,7 @@ fn takes(scheme: Scheme, cells: u32, children: u32) -> bool
         Scheme::Thin | Scheme::Fat => true,
         Scheme::Trie => {
             let bits = cells.trailing_zeros();
-            cells == children && (u64::from(cells) == 1 << bits && bits > 0)
+            cells == children && u64::from(cells) == 1 << bits && bits > 0
         }
     }
 }
@@ -50,14 +50,10 @@ impl Shape {
             levels,
             tries,
         } = settings;
-        let in_range = 1 <= cells
-            && cells <= 256
-            && 2 <= children
-            && children <= 256
-            && 1 <= levels
-            && levels <= 16
-            && 1 <= tries
-            && tries <= cells;
+        let in_range = (1..=256).contains(&cells)
+            && (2..=256).contains(&children)
+            && (1..=16).contains(&levels)
+            && (1..=cells).contains(&tries);
         if !in_range || !takes(scheme, cells as u32, children as u32) {
             return Err(RuleFault::Setting);
         }

@@ -34,19 +34,18 @@ fn range_in_thin(shape: &Shape, level: u32) -> u32
     }
 }
 
-// The bits of a digest that a trie with so many cells and children takes at a level.
-fn bits(cells: u32, children: u32, digest: u32, level: u32) -> u32
-    requires taken { scheme_takes Trie cells children ≡ true }
-    requires few { cells ≤ 256 }
+// The bits of a digest that a trie takes at a level.
+fn bits(shape: &Shape, digest: u32, level: u32) -> u32
+    requires trie { shape.now.scheme ≡ Trie }
     requires deep { level < 16 }
-    ensures { result ≡ bits_of (log_two cells) digest level }
+    ensures { result ≡ bits_of (log_two shape.now.cells) digest level }
 {
-    let width = cells.trailing_zeros();
+    let width = shape.cells.trailing_zeros();
     if level == 0 {
         return (u64::from(digest) >> (32 - width)) as u32;
     }
     let behind = 32u32.saturating_sub(width * (level + 1));
-    ((u64::from(digest) >> behind) % u64::from(cells * children)) as u32
+    ((u64::from(digest) >> behind) % u64::from(shape.cells * shape.children)) as u32
 }
 
 impl Rule {
@@ -61,7 +60,7 @@ impl Rule {
             Scheme::Thin => hashed_below(coefficient, at.hash, range_in_thin(shape, at.level)),
             // A descent of another rule may have any span.
             Scheme::Fat => hashed_below(coefficient, at.hash, at.span.max(1)),
-            Scheme::Trie => bits(shape.cells, shape.children, at.hash, at.level),
+            Scheme::Trie => bits(shape, at.hash, at.level),
         }
     }
 

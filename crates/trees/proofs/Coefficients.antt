@@ -1,7 +1,9 @@
 -- The lowest level whose coefficients do not fit, level by level.
-use Rattle.std.proofs.Common.{◌≡◌, ℕ, zero, suc, ◌+◌, ◌-◌, ◌<◌, ◌≤◌, true, false, List, [], ◌∷◌, ◌++◌, length, get_or, drop, replicate, Some, None, sym, refl, ap, ◌∙◌, inl, inr, arith}
-use Rattle.std.proofs.lemmas.List.{drop_more, drop_all, length-drop}
-use Rattle.std.proofs.lemmas.Bool.{cond-true, cond-false, and_from, and_parts, cases_Bool}
+use Rattle.std.proofs.Common.{◌≡◌, ℕ, zero, suc, ◌+◌, ◌-◌, ◌<◌, ◌≤◌, Bool, true, false, not, List, [], ◌∷◌, ◌++◌, length, get_or, take, drop, position, replicate, Some, None, sym, refl, ap, ◌∙◌, inl, inr, arith}
+use Rattle.std.proofs.lemmas.List.{drop_more, drop_all, get_or-take, length-drop, length-take-le}
+use Rattle.std.proofs.lemmas.List.Quantifiers.{position-Some}
+use Rattle.std.proofs.lemmas.Bool.{cond-true, cond-false, and_from, and_parts, cases_Bool, not-false, not-true}
+use Rattle.octets.proofs.Lists.{fails_everywhere}
 use Rattle.trees.specs.declared.settings.Coefficient.{Coefficient}
 use Rattle.trees.specs.Settings.{coefficient_fits, all_fit}
 use Rattle.trees.specs.Refusal.{lowest_unfit}
@@ -26,6 +28,14 @@ module _ (cs : List Coefficient) (level wanted : ℕ) where
     pub fits_on : coefficient_fits (get_or cs level d) ≡ true → lowest_unfit level (wanted - level) (drop level cs) ≡ lowest_unfit (level + 1) (wanted - (level + 1)) (drop (level + 1) cs)
     fits_on good = opened ∙ cond-true _ _ _ good
 
+-- The levels so far fit, so the lowest that does not is among the rest.
+pub past_fitting : (cs : List Coefficient) (wanted : ℕ) (d : Coefficient) (n : ℕ) → n ≤ wanted → n ≤ length cs → ((k : ℕ) → k < n → coefficient_fits (get_or cs k d) ≡ true) → lowest_unfit 0 wanted cs ≡ lowest_unfit n (wanted - n) (drop n cs)
+past_fitting cs wanted d zero few there fit = let all : wanted ≡ wanted - 0 = omega arith in ap (λ n. lowest_unfit 0 n cs) all
+past_fitting cs wanted d (suc n) few there fit =
+    let next : n + 1 ≡ suc n = omega arith in
+    past_fitting cs wanted d n (omega arith) (omega arith) (λ k low. fit k (omega arith)) ∙ fits_on cs n wanted d (omega arith) (omega arith) (fit n (omega arith))
+    ∙ ap (λ k. lowest_unfit k (wanted - k) (drop k cs)) next
+
 none_left : (level : ℕ) (cs : List Coefficient) → 0 < length cs → lowest_unfit level 0 cs ≡ Some level
 none_left level [] h = absurd (omega arith)
 none_left level (c ∷ cs) h = refl
@@ -41,6 +51,25 @@ module _ (cs : List Coefficient) (wanted : ℕ) where
 
   pub no_extra : length cs ≤ wanted → lowest_unfit wanted (wanted - wanted) (drop wanted cs) ≡ None
   no_extra h = ap (λ n. lowest_unfit wanted n (drop wanted cs)) no_more ∙ ap (lowest_unfit wanted 0) (drop_all wanted cs h)
+
+-- The first n coefficients, one for each of the first n levels: the lowest unfit level by the first of them that is out of range.
+module _ (cs : List Coefficient) (wanted n : ℕ) (d : Coefficient) (few : n ≤ wanted) (there : n ≤ length cs) where
+  abbrev out_of_range : Coefficient → Bool
+  out_of_range c = not (coefficient_fits c)
+
+  fits_before : (k : ℕ) → k < n → out_of_range (get_or (take n cs) k d) ≡ false → coefficient_fits (get_or cs k d) ≡ true
+  fits_before k low h = ap coefficient_fits (sym (get_or-take n cs k d low)) ∙ not-false _ h
+
+  pub lowest_is_first : (level : ℕ) → Some level ≡ position out_of_range (take n cs) → lowest_unfit 0 wanted cs ≡ Some level
+  lowest_is_first level h =
+      let at = position-Some out_of_range (take n cs) level d (sym h) in
+      let low : level < n = omega (arith, at.0, length-take-le n cs there) in
+      past_fitting cs wanted d level (omega arith) (omega arith) (λ k before. fits_before k (omega arith) (at.2 k before))
+      ∙ unfit cs level wanted d (omega arith) (omega arith) (ap coefficient_fits (sym (get_or-take n cs level d low)) ∙ not-true _ at.1)
+
+  pub lowest_is_behind : None ≡ position out_of_range (take n cs) → lowest_unfit 0 wanted cs ≡ lowest_unfit n (wanted - n) (drop n cs)
+  lowest_is_behind h =
+      past_fitting cs wanted d n few there (λ k low. fits_before k low (fails_everywhere out_of_range (take n cs) k d h (omega (arith, length-take-le n cs there))))
 
 -- Where no level is unfit, there are as many coefficients as levels that want them, and all fit.
 pub none_unfit : (level wanted : ℕ) (cs : List Coefficient) → lowest_unfit level wanted cs ≡ None → (length cs ≡ wanted) × (all_fit cs ≡ true)

@@ -1,6 +1,7 @@
 -- The settings of a path rule, and which of them are in range.
-use Rattle.std.specs.Prelude.{◌≡◌, ℕ, ◌^◌, Bool, true, ◌&&◌, List, [], ◌∷◌, ◌==◌, nat_le, nat_lt}
+use Rattle.std.specs.Prelude.{◌≡◌, ℕ, ◌^◌, Bool, true, ◌&&◌, List, ◌==◌, nat_le, nat_lt}
 use Rattle.std.specs.Int.Count.{count_trailing_zeros}
+use Rattle.std.specs.List.{list_all}
 use Rattle.keys.specs.Hashes.{modulus}
 use Rattle.trees.specs.declared.settings.Coefficient.{Coefficient}
 use Rattle.trees.specs.declared.settings.Scheme.{Scheme}
@@ -54,5 +55,4 @@ abbrev pub coefficient_fits : Coefficient → Bool
 coefficient_fits c = nat_le 1 c.a && (nat_lt c.a modulus && nat_lt c.b modulus)
 
 abbrev pub all_fit : List Coefficient → Bool
-all_fit [] = true
-all_fit (c ∷ cs) = coefficient_fits c && all_fit cs
+all_fit cs = list_all coefficient_fits cs

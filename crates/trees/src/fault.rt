@@ -1,6 +1,7 @@
 // Why settings are refused.
-ghost use Rattle.std.specs.Prelude.{◌≡◌};
 ghost use Rattle.trees.specs.Refusal.{rule_number, rule_detail};
+
+use refusals::Refusal;
 
 #[derive(Clone, Copy, PartialEq, Eq, Debug)]
 pub enum RuleFault {
@@ -12,11 +13,12 @@ pub enum RuleFault {
     Size,
 }
 
-impl RuleFault {
-    // The refusal's number.
-    pub fn number(&self) -> u32
-        ensures { result ≡ rule_number self.now }
-    {
+impl Refusal for RuleFault {
+    ghost number_of = { rule_number };
+
+    ghost detail_of = { rule_detail };
+
+    fn number(&self) -> u32 {
         match self {
             RuleFault::Setting => 1,
             RuleFault::Coefficient(_) => 2,
@@ -24,10 +26,7 @@ impl RuleFault {
         }
     }
 
-    // The refusal's detail.
-    pub fn detail(&self) -> Option<u64>
-        ensures { result ≡ rule_detail self.now }
-    {
+    fn detail(&self) -> Option<u64> {
         match self {
             RuleFault::Coefficient(level) => Some(*level as u64),
             RuleFault::Setting | RuleFault::Size => None,

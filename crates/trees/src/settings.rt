@@ -42,6 +42,6 @@ impl Coefficient {
     pub fn fits(&self) -> bool
         ensures { result ≡ coefficient_fits self.now }
     {
-        1 <= self.a && self.a < MODULUS && self.b < MODULUS
+        (1..MODULUS).contains(&self.a) && self.b < MODULUS
     }
 }

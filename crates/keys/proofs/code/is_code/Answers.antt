@@ -1,7 +1,7 @@
 -- Each turn takes one byte off what is left.
 use Rattle.std.proofs.Common.{◌+◌, get_or, drop, sym, ◌∙◌, arith}
 use Rattle.std.proofs.lemmas.List.{at_drop_more, at_drop_all}
-use Rattle.keys.proofs.Codes.{code_from, refused_from, goes_from, admissible_is}
+use Rattle.keys.proofs.Codes.{code_from, refused_from, admissible_is}
 use Rattle.keys.proofs.code.is_code.Goals as goal
 
 pub returns-in-None : goal.returns-in-None
@@ -10,13 +10,6 @@ returns-in-None c =
     let opened = at_drop_more (code_from c.loop-place.ended c.loop-place.place) all c.loop-place.place 0 (omega arith) in
     sym (refused_from c.loop-place.ended c.loop-place.place (get_or all c.loop-place.place 0) (drop (c.loop-place.place + 1) all) c.in-None.ensures)
     ∙ sym opened ∙ c.loop-place.invariant ∙ admissible_is all (omega arith)
-
-pub loop-place-preserved : goal.loop-place-preserved
-loop-place-preserved c =
-    let all = c.args.bytes.now in
-    let opened = at_drop_more (code_from c.loop-place.ended c.loop-place.place) all c.loop-place.place 0 (omega arith) in
-    sym (goes_from c.loop-place.ended c.loop-place.place (get_or all c.loop-place.place 0) (drop (c.loop-place.place + 1) all) c.in-Some.ended_now c.in-Some.ensures)
-    ∙ sym opened ∙ c.loop-place.invariant
 
 pub returns : goal.returns
 returns c =

@@ -1,23 +1,9 @@
 -- The table holds the level's coefficients, which fit; a descent of this rule has the level's own span.
 use Rattle.std.proofs.Common.{◌≡◌, ◌≤◌, ◌∙◌, arith}
 use Rattle.trees.specs.Geometry.{span}
-use Rattle.trees.proofs.Coefficients.{fit_at}
 use Rattle.trees.proofs.Geometry.{span_some}
-use Rattle.paths.proofs.Values.{thin_value, fat_value}
+use Rattle.paths.proofs.Values.{fat_value}
 use Rattle.paths.proofs.rule.Rule.value.Goals as goal
-
-pub hashed_below-requires : goal.hashed_below-requires
-hashed_below-requires c =
-    record { fits = fit_at c.args.self.now.coefficients c.args.at.now.level _ (omega arith) c.args.self.now.fit; some = c.range_in_thin.ensures.some }
-
-pub hashed_below-requires-in-Fat : goal.hashed_below-requires-in-Fat
-hashed_below-requires-in-Fat c =
-    record { fits = fit_at c.args.self.now.coefficients c.args.at.now.level _ (omega arith) c.args.self.now.fit; some = omega arith }
-
-pub returns-in-Thin : goal.returns-in-Thin
-returns-in-Thin c own =
-    c.hashed_below.ensures
-    ∙ thin_value c.args.self.now c.args.at.now.level (omega arith) c.args.at.now.hash c.range_in_thin.result _ c.requires c.in-Thin.is c.range_in_thin.ensures.value
 
 pub returns-in-Fat : goal.returns-in-Fat
 returns-in-Fat c own =
