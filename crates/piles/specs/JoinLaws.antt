@@ -21,17 +21,26 @@ long_by true true c d x h k e = h e
 long_by true false c d x h k e = k e
 long_by false side c d x h k e = absurd (let z : ◌≡◌ {A = ℕ} 0 1 = cc in omega arith)
 
-pub join_laws :
-    {S T : Type 0} {cells : S → ℕ} {cell : S → ℕ → Cell} {takes : S → ℕ → Bool} {cells' : T → ℕ} {cell' : T → ℕ → Cell} {takes' : T → ℕ → Bool}
+-- Over any type that has two stores.
+pub join_laws_of :
+    {J S T : Type 0} {cells : S → ℕ} {cell : S → ℕ → Cell} {takes : S → ℕ → Bool} {cells' : T → ℕ} {cell' : T → ℕ → Cell} {takes' : T → ℕ → Bool} (first : J → S) (second : J → T)
     → StoreLaws cells cell takes → StoreLaws cells' cell' takes'
-    → StoreLaws (λ (j : Join S T). join_cells (cells j.first) (cells' j.second))
-    (λ j. join_cell (cells j.first) (cells' j.second) (cell j.first) (cell' j.second))
-    (λ j. join_takes (cells j.first) (cells' j.second) (takes j.first) (takes' j.second))
-join_laws {cells = cells} {cells' = cells'} laws laws' =
+    → StoreLaws (λ j. join_cells (cells (first j)) (cells' (second j)))
+    (λ j. join_cell (cells (first j)) (cells' (second j)) (cell (first j)) (cell' (second j)))
+    (λ j. join_takes (cells (first j)) (cells' (second j)) (takes (first j)) (takes' (second j)))
+join_laws_of {cells = cells} {cells' = cells'} first second laws laws' =
     record {
       small = λ j. omega arith;
       beyond = λ j d h. cond-false _ _ _ (le-ltb d _ h);
       outside = λ j d h. cond-false _ _ _ (le-ltb d _ h);
-      once = λ j d. once_by (nat_lt d (join_cells (cells j.first) (cells' j.second))) (nat_lt d (cells j.first)) _ _ _ _ (laws.once j.first d) (laws'.once j.second (d - cells j.first));
-      long = λ j d x. long_by (nat_lt d (join_cells (cells j.first) (cells' j.second))) (nat_lt d (cells j.first)) _ _ x (laws.long j.first d x) (laws'.long j.second (d - cells j.first) x);
+      once = λ j d. once_by (nat_lt d (join_cells (cells (first j)) (cells' (second j)))) (nat_lt d (cells (first j))) _ _ _ _ (laws.once (first j) d) (laws'.once (second j) (d - cells (first j)));
+      long = λ j d x. long_by (nat_lt d (join_cells (cells (first j)) (cells' (second j)))) (nat_lt d (cells (first j))) _ _ x (laws.long (first j) d x) (laws'.long (second j) (d - cells (first j)) x);
     }
+
+pub join_laws :
+    {S T : Type 0} {cells : S → ℕ} {cell : S → ℕ → Cell} {takes : S → ℕ → Bool} {cells' : T → ℕ} {cell' : T → ℕ → Cell} {takes' : T → ℕ → Bool} {g h : _}
+    → StoreLaws cells cell takes → StoreLaws cells' cell' takes'
+    → StoreLaws (λ (j : Join S T g h). join_cells (cells j.first) (cells' j.second))
+    (λ j. join_cell (cells j.first) (cells' j.second) (cell j.first) (cell' j.second))
+    (λ j. join_takes (cells j.first) (cells' j.second) (takes j.first) (takes' j.second))
+join_laws = join_laws_of (λ j. j.first) (λ j. j.second)

@@ -15,16 +15,24 @@ long_by : (inside : Bool) (c : Cell) (x : List ℕ) → (c ≡ written x → len
 long_by true c x h e = h e
 long_by false c x h e = absurd (let z : ◌≡◌ {A = ℕ} 0 1 = cc in omega arith)
 
-pub window_laws :
-    {S : Type 0} {cells : S → ℕ} {cell : S → ℕ → Cell} {takes : S → ℕ → Bool} → StoreLaws cells cell takes
-    → StoreLaws (λ (w : Window S). window_cells w.first w.count (cells w.below))
-    (λ w. window_cell w.first w.count (cells w.below) (cell w.below))
-    (λ w. window_takes w.first w.count (cells w.below) (takes w.below))
-window_laws laws =
+-- Over any type that has a store below, a first cell and a count.
+pub window_laws_of :
+    {T S : Type 0} {cells : S → ℕ} {cell : S → ℕ → Cell} {takes : S → ℕ → Bool} (below : T → S) (first count : T → ℕ) → StoreLaws cells cell takes
+    → StoreLaws (λ t. window_cells (first t) (count t) (cells (below t)))
+    (λ t. window_cell (first t) (count t) (cells (below t)) (cell (below t)))
+    (λ t. window_takes (first t) (count t) (cells (below t)) (takes (below t)))
+window_laws_of below first count laws =
     record {
-      small = λ w. omega (arith, laws.small w.below);
+      small = λ w. omega (arith, laws.small (below w));
       beyond = λ w d h. cond-false _ _ _ (le-ltb d _ h);
       outside = λ w d h. cond-false _ _ _ (le-ltb d _ h);
-      once = λ w d. once_by _ _ _ (laws.once w.below (w.first + d));
-      long = λ w d x. long_by _ _ x (laws.long w.below (w.first + d) x);
+      once = λ w d. once_by _ _ _ (laws.once (below w) (first w + d));
+      long = λ w d x. long_by _ _ x (laws.long (below w) (first w + d) x);
     }
+
+pub window_laws :
+    {S : Type 0} {cells : S → ℕ} {cell : S → ℕ → Cell} {takes : S → ℕ → Bool} {g : _} → StoreLaws cells cell takes
+    → StoreLaws (λ (w : Window S g). window_cells w.first w.count (cells w.below))
+    (λ w. window_cell w.first w.count (cells w.below) (cell w.below))
+    (λ w. window_takes w.first w.count (cells w.below) (takes w.below))
+window_laws = window_laws_of (λ w. w.below) (λ w. w.first) (λ w. w.count)

@@ -1,15 +1,16 @@
 // A join: the cells of one store, then those of another, shown as one store.
-ghost use Rattle.std.specs.Prelude.{◌≡◌, Ok, Err, MatchResult};
-ghost use Rattle.piles.specs.JoinLaws.{join_laws};
-ghost use Rattle.piles.specs.Joins.{join_cells, join_cell, join_takes, join_fit};
+ghost use Rattle.std.specs.Prelude.{◌+◌, ◌≤◌};
+ghost use Rattle.stores.specs.Laws.{largest_store};
 
 use stores::fault::{SetUpFault, StoreFault, seen_from_above};
-use stores::store::{CELL_LENGTH, LARGEST_STORE, Store};
+use stores::store::{LARGEST_STORE, Store};
 
 #[derive(Drop)]
 pub struct Join<S: Store, T: Store> {
     pub(crate) first: S,
     pub(crate) second: T,
+    // Both have no more cells than a store may.
+    ghost few: { S.cells first + T.cells second ≤ largest_store },
 }
 
 // Two stores that could not be joined, and why.
@@ -21,6 +22,9 @@ pub struct NoJoin<S, T> {
 }
 
 impl<S: Store, T: Store> Join<S, T> {
+    ghost use Rattle.std.specs.Prelude.{◌≡◌, Ok, Err, MatchResult};
+    ghost use Rattle.piles.specs.Joins.{join_fit};
+
     // Both stores as one; 3 SIZE where they have more cells than a store may, and the stores back.
     pub fn new(first: S, second: T) -> Result<Join<S, T>, NoJoin<S, T>>
         ensures { MatchResult result (λ j. (join_fit (S.Store.cells first) (T.Store.cells second) ≡ Ok tt) × (j.first ≡ first) × (j.second ≡ second)) (λ e. (join_fit (S.Store.cells first) (T.Store.cells second) ≡ Err e.fault) × (e.first ≡ first) × (e.second ≡ second)) }
@@ -52,12 +56,14 @@ impl<S: Store, T: Store> Join<S, T> {
     pub fn into_parts(self) -> (S, T)
         ensures { (result.0 ≡ self.first) × (result.1 ≡ self.second) }
     {
-        let Join { first, second } = self;
-        (first, second)
+        (self.first, self.second)
     }
 }
 
 impl<S: Store, T: Store> Store for Join<S, T> {
+    ghost use Rattle.piles.specs.JoinLaws.{join_laws};
+    ghost use Rattle.piles.specs.Joins.{join_cells, join_cell, join_takes};
+
     ghost cells = { λ j. join_cells (S.Store.cells j.first) (T.Store.cells j.second) };
 
     ghost cell = { λ j. join_cell (S.Store.cells j.first) (T.Store.cells j.second) (S.Store.cell j.first) (T.Store.cell j.second) };
@@ -67,50 +73,29 @@ impl<S: Store, T: Store> Store for Join<S, T> {
     ghost laws = { join_laws S.Store.laws T.Store.laws };
 
     fn size(&self) -> u32 {
-        self.first
-            .size()
-            .saturating_add(self.second.size())
-            .min(LARGEST_STORE)
+        self.first.size() + self.second.size()
     }
 
     fn can_take(&self, at: u32) -> bool {
-        if at >= self.size() {
-            return false;
-        }
-        let first = self.first.size();
-        if at < first {
-            self.first.can_take(at)
-        } else {
-            self.second.can_take(at - first)
+        match at.checked_sub(self.first.size()) {
+            None => self.first.can_take(at),
+            Some(behind) => self.second.can_take(behind),
         }
     }
 
     fn read(&self, at: u32, buffer: &mut [u8]) -> Result<bool, StoreFault> {
-        if buffer.len() != CELL_LENGTH {
-            return Err(StoreFault::Length);
-        }
-        if at >= self.size() {
-            return Err(StoreFault::Beyond(at));
-        }
-        let first = self.first.size();
-        if at < first {
-            self.first.read(at, buffer)
-        } else {
-            self.second.read(at - first, buffer)
+        self.check(at, buffer.len())?;
+        match at.checked_sub(self.first.size()) {
+            None => self.first.read(at, buffer),
+            Some(behind) => self.second.read(behind, buffer),
         }
     }
 
     fn write(&mut self, at: u32, bytes: &[u8]) -> Result<(), StoreFault> {
-        if bytes.len() != CELL_LENGTH {
-            return Err(StoreFault::Length);
+        self.check(at, bytes.len())?;
+        match at.checked_sub(self.first.size()) {
+            None => self.first.write(at, bytes),
+            Some(behind) => seen_from_above(self.second.write(behind, bytes), at),
         }
-        if at >= self.size() {
-            return Err(StoreFault::Beyond(at));
-        }
-        let first = self.first.size();
-        if at < first {
-            return self.first.write(at, bytes);
-        }
-        seen_from_above(self.second.write(at - first, bytes), at)
     }
 }

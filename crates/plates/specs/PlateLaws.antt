@@ -27,15 +27,19 @@ room_for count memory d h = omega (arith, div-mul-le_self (length memory) 25)
 length_place : (memory : List ℕ) (d : ℕ) → 25 * d + 25 ≤ length memory → length (place memory d) ≡ 24
 length_place memory d h = length-take 24 (drop (25 * d + 1) memory) ∙ (let e = length-drop (25 * d + 1) memory in omega (arith, e))
 
-pub plate_laws :
-    StoreLaws (λ (p : Plate). plate_cells p.count p.memory.now) (λ p. plate_cell p.count p.memory.now) (λ p. plate_takes p.count p.memory.now)
-plate_laws =
+-- Over any type that has a count and memory.
+pub plate_laws_of : {P : Type 0} (count : P → ℕ) (memory : P → List ℕ) → StoreLaws (λ p. plate_cells (count p) (memory p)) (λ p. plate_cell (count p) (memory p)) (λ p. plate_takes (count p) (memory p))
+plate_laws_of count memory =
     record {
       small = λ p. omega arith;
       beyond = λ p d h. cond-false _ _ _ (le-ltb d _ h);
       outside = λ p d h. and_left _ _ (le-ltb d _ h);
-      once = λ p d. once_by (nat_lt d (plate_cells p.count p.memory.now)) (flag p.memory.now d == 0) (place p.memory.now d);
+      once = λ p d. once_by (nat_lt d (plate_cells (count p) (memory p))) (flag (memory p) d == 0) (place (memory p) d);
       long = λ p d x e.
-          let parts = held (nat_lt d (plate_cells p.count p.memory.now)) (flag p.memory.now d == 0) (place p.memory.now d) x e in
-          ap length (sym parts.1) ∙ length_place p.memory.now d (room_for p.count p.memory.now d (ltb-true d _ parts.0));
+          let parts = held (nat_lt d (plate_cells (count p) (memory p))) (flag (memory p) d == 0) (place (memory p) d) x e in
+          ap length (sym parts.1) ∙ length_place (memory p) d (room_for (count p) (memory p) d (ltb-true d _ parts.0));
     }
+
+pub plate_laws :
+    StoreLaws (λ (p : Plate). plate_cells p.count p.memory.now) (λ p. plate_cell p.count p.memory.now) (λ p. plate_takes p.count p.memory.now)
+plate_laws = plate_laws_of (λ p. p.count) (λ p. p.memory.now)

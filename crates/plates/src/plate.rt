@@ -1,20 +1,26 @@
 // A plate: for each cell a flag and its bytes, in memory that the caller lends.
-ghost use Rattle.std.specs.Prelude.{◌≡◌, ℕ, false, is_ok, MatchResult};
-ghost use Rattle.stores.specs.Cells.{after_write, write_answer};
-ghost use Rattle.plates.specs.PlateLaws.{plate_laws};
-ghost use Rattle.plates.specs.Plates.{Plated, plate_cells, plate_cell, plate_takes};
+ghost use Rattle.std.specs.Prelude.{◌*◌, ◌≤◌, length};
+ghost use Rattle.stores.specs.Laws.{largest_store};
 
-use crate::memory::{put, room};
+use crate::memory::put;
 use stores::fault::StoreFault;
-use stores::store::{CELL_LENGTH, Store};
+use stores::store::Store;
 
 #[derive(Drop)]
 pub struct Plate<'a> {
     pub(crate) memory: &'a mut [u8],
     pub(crate) count: u32,
+    // Its cells are as many as a store may have, and memory holds them.
+    ghost few: { count ≤ largest_store },
+    ghost fits: { 25 * count ≤ length memory.now },
 }
 
 impl<'a> Store for Plate<'a> {
+    ghost use Rattle.std.specs.Prelude.{◌≡◌, ℕ, false, is_ok, MatchResult};
+    ghost use Rattle.stores.specs.Cells.{after_write, write_answer};
+    ghost use Rattle.plates.specs.PlateLaws.{plate_laws};
+    ghost use Rattle.plates.specs.Plates.{Plated, plate_cells, plate_cell, plate_takes};
+
     ghost cells = { λ p. plate_cells p.count p.memory.now };
 
     ghost cell = { λ p. plate_cell p.count p.memory.now };
@@ -24,20 +30,15 @@ impl<'a> Store for Plate<'a> {
     ghost laws = { plate_laws };
 
     fn size(&self) -> u32 {
-        room(self.count, self.memory.len())
+        self.count
     }
 
     fn can_take(&self, at: u32) -> bool {
-        at < room(self.count, self.memory.len()) && self.memory[25 * at as usize] == 0
+        at < self.count && self.memory[25 * at as usize] == 0
     }
 
     fn read(&self, at: u32, buffer: &mut [u8]) -> Result<bool, StoreFault> {
-        if buffer.len() != CELL_LENGTH {
-            return Err(StoreFault::Length);
-        }
-        if at >= room(self.count, self.memory.len()) {
-            return Err(StoreFault::Beyond(at));
-        }
+        self.check(at, buffer.len())?;
         let first = 25 * at as usize;
         if self.memory[first] == 0 {
             buffer.fill(0);
@@ -55,12 +56,7 @@ impl<'a> Store for Plate<'a> {
         ensures same { is_ok result ≡ false → self.new ≡ self.old }
         ensures bytes { MatchResult result (λ _. Plated self.old.memory.now self.new.memory.now at bytes.now) (λ _. self.new.memory.now ≡ self.old.memory.now) }
     {
-        if bytes.len() != CELL_LENGTH {
-            return Err(StoreFault::Length);
-        }
-        if at >= room(self.count, self.memory.len()) {
-            return Err(StoreFault::Beyond(at));
-        }
+        self.check(at, bytes.len())?;
         if self.memory[25 * at as usize] != 0 {
             return Err(StoreFault::Written(at));
         }

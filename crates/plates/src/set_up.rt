@@ -8,27 +8,30 @@ use crate::plate::Plate;
 use stores::fault::SetUpFault;
 use stores::store::LARGEST_STORE;
 
-// Whether memory of so many bytes holds so many cells.
-fn fit(count: u32, bytes: usize) -> Result<(), SetUpFault>
-    ensures value { result ≡ plate_fit count bytes }
+// How many bytes so many cells take, where so many bytes hold them.
+fn fit(count: u32, bytes: usize) -> Result<usize, SetUpFault>
+    ensures value { MatchResult result (λ size. (plate_fit count bytes ≡ Ok tt) × (size ≡ 25 * count)) (λ f. plate_fit count bytes ≡ Err f) }
     ensures enough { OnOk result ((count ≤ largest_store) × (25 * count ≤ bytes)) }
 {
-    if count < 1 || count > LARGEST_STORE {
+    if !(1..=LARGEST_STORE).contains(&count) {
         return Err(SetUpFault::Setting);
     }
-    if 25 * count as usize > bytes {
+    let size = 25 * count as usize;
+    if size > bytes {
         return Err(SetUpFault::Size);
     }
-    Ok(())
+    Ok(size)
 }
 
 // Zeroes the bytes of so many cells, and no others.
+// (Every make sets up so, by its own numbers and its own test: one generic function would take the test and the size as
+// closures and say no more.)
 pub fn clear(memory: &mut [u8], count: u32) -> Result<(), SetUpFault>
     ensures value { result ≡ plate_fit count (length memory.old) }
     ensures after { memory.new ≡ (if is_ok result then zeroed (25 * count) memory.old else memory.old) }
 {
-    fit(count, memory.len())?;
-    memory[0..25 * count as usize].fill(0);
+    let size = fit(count, memory.len())?;
+    memory[..size].fill(0);
     Ok(())
 }
 
@@ -37,19 +40,15 @@ impl<'a> Plate<'a> {
     pub fn set_up(memory: &'a mut [u8], count: u32) -> Result<Plate<'a>, SetUpFault>
         ensures { MatchResult result (λ p. (plate_fit count (length memory.old) ≡ Ok tt) × (p.count ≡ count) × (p.memory.now ≡ zeroed (25 * count) memory.old)) (λ f. plate_fit count (length memory.old) ≡ Err f) }
     {
-        match clear(memory, count) {
-            Ok(()) => Ok(Plate { memory, count }),
-            Err(fault) => Err(fault),
-        }
+        clear(memory, count)?;
+        Ok(Plate { memory, count })
     }
 
     // The plate that is in memory, whatever that holds.
     pub fn open(memory: &'a mut [u8], count: u32) -> Result<Plate<'a>, SetUpFault>
         ensures { MatchResult result (λ p. (plate_fit count (length memory.old) ≡ Ok tt) × (p.count ≡ count) × (p.memory.now ≡ memory.old)) (λ f. plate_fit count (length memory.old) ≡ Err f) }
     {
-        match fit(count, memory.len()) {
-            Ok(()) => Ok(Plate { memory, count }),
-            Err(fault) => Err(fault),
-        }
+        fit(count, memory.len())?;
+        Ok(Plate { memory, count })
     }
 }

@@ -41,13 +41,19 @@ long_by inside lines memory d x e =
     let low : h.0 < reel_used lines memory = found_below memory d (reel_used lines memory) h.0 h.1.0 in
     ap length (sym h.1.1) ∙ length_line memory h.0 (line_inside lines memory h.0 (omega arith))
 
-pub reel_laws :
-    StoreLaws (λ (r : Reel). reel_cells r.cells) (λ r. reel_cell r.cells r.lines r.memory.now) (λ r. reel_takes r.cells r.lines r.memory.now)
-reel_laws =
+-- Over any type that has a number of cells, one of lines, and memory.
+pub reel_laws_of :
+    {R : Type 0} (cells lines : R → ℕ) (memory : R → List ℕ)
+    → StoreLaws (λ r. reel_cells (cells r)) (λ r. reel_cell (cells r) (lines r) (memory r)) (λ r. reel_takes (cells r) (lines r) (memory r))
+reel_laws_of cells lines memory =
     record {
       small = λ r. omega arith;
       beyond = λ r d h. cond-false _ _ _ (le-ltb d _ h);
       outside = λ r d h. and_left _ _ (le-ltb d _ h);
-      once = λ r d. once_by (nat_lt d (reel_cells r.cells)) (nat_lt (reel_used r.lines r.memory.now) (reel_room r.lines r.memory.now)) r.memory.now (found r.memory.now d (reel_used r.lines r.memory.now));
-      long = λ r d x. long_by (nat_lt d (reel_cells r.cells)) r.lines r.memory.now d x;
+      once = λ r d. once_by (nat_lt d (reel_cells (cells r))) (nat_lt (reel_used (lines r) (memory r)) (reel_room (lines r) (memory r))) (memory r) (found (memory r) d (reel_used (lines r) (memory r)));
+      long = λ r d x. long_by (nat_lt d (reel_cells (cells r))) (lines r) (memory r) d x;
     }
+
+pub reel_laws :
+    StoreLaws (λ (r : Reel). reel_cells r.cells) (λ r. reel_cell r.cells r.lines r.memory.now) (λ r. reel_takes r.cells r.lines r.memory.now)
+reel_laws = reel_laws_of (λ r. r.cells) (λ r. r.lines) (λ r. r.memory.now)

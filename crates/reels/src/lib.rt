@@ -4,4 +4,3 @@
 mod lines;
 pub mod reel;
 pub mod set_up;
-mod writing;

@@ -1,73 +1,50 @@
 // The lines of a reel.
-ghost use Rattle.std.specs.Prelude.{◌≡◌, ◌+◌, ◌-◌, ◌*◌, ◌/◌, ◌<◌, ◌≤◌, min, length, take, drop, IfSome};
-ghost use Rattle.octets.specs.Numbers.{big_endian, spelled};
-ghost use Rattle.octets.specs.Overwriting.{overwritten};
-ghost use Rattle.stores.specs.Laws.{largest_store};
-ghost use Rattle.reels.specs.Reels.{found, line_added, reel_used};
+ghost use Rattle.std.specs.Prelude.{◌≡◌, ◌+◌, ◌*◌, ◌<◌, Ok, Err, IfOk, IfSome, MatchResult};
+ghost use Rattle.stores.specs.Cells.{write_answer};
+ghost use Rattle.reels.specs.Reels.{FreeLine, found, reel_cell, reel_cells, reel_takes, reel_used};
 
-use octets::write_number;
-use stores::store::LARGEST_STORE;
+use crate::reel::Reel;
+use octets::memory::InMemory;
+use stores::fault::StoreFault;
+use stores::store::Store;
 
-// How many lines there is memory for.
-pub(crate) fn room(lines: u32, bytes: usize) -> usize
-    ensures { result ≡ min (min lines largest_store) ((bytes - 4) / 28) }
+// Where a line begins: behind the count and the lines before it.
+pub(crate) fn place(line: u32) -> usize
+    ensures { result ≡ 4 + 28 * line }
 {
-    (lines.min(LARGEST_STORE) as usize).min(bytes.saturating_sub(4) / 28)
+    4 + 28 * line as usize
 }
 
-// The number that 4 bytes spell.
-pub(crate) fn number_at(memory: &[u8], at: usize) -> u32
-    requires { at + 4 ≤ length memory.now }
-    ensures { result ≡ spelled (take 4 (drop at memory.now)) }
-{
-    let high = u32::from(memory[at]) * 256 + u32::from(memory[at + 1]);
-    let low = u32::from(memory[at + 2]) * 256 + u32::from(memory[at + 3]);
-    high * 65536 + low
-}
-
-// How many lines are used.
-pub(crate) fn used(memory: &[u8], lines: u32) -> usize
-    ensures value { result ≡ reel_used lines memory.now }
-    ensures inside { 28 * result ≤ length memory.now - 4 }
-{
-    if memory.len() < 4 {
-        return 0;
+impl<'a> Reel<'a> {
+    // How many lines are used.
+    pub(crate) fn used(&self) -> u32
+        ensures { result ≡ reel_used self.now.lines self.now.memory.now }
+    {
+        u32::read_at(self.memory, 0).min(self.lines)
     }
-    (number_at(memory, 0) as usize).min(room(lines, memory.len()))
-}
 
-// The first of n lines with the cell's number, looked for from the first line on. An index could not be
-// trusted: memory that is opened may hold any bytes, and a struct that holds a `&mut` has no ghost field
-// to say that an index agrees with them.
-pub(crate) fn find(memory: &[u8], n: usize, cell: u32) -> Option<usize>
-    requires { 28 * n ≤ length memory.now - 4 }
-    ensures value { result ≡ found memory.now cell n }
-    ensures below { IfSome result (λ i. i < n) }
-{
-    for i in 0..n {
-        if number_at(memory, 4 + 28 * i) == cell {
-            return Some(i);
+    // The first used line with the cell's number, looked for from the first line on: an index would take memory
+    // of its own, and a reel has only what the caller lends.
+    pub(crate) fn find(&self, cell: u32) -> Option<u32>
+        ensures value { result ≡ found self.now.memory.now cell (reel_used self.now.lines self.now.memory.now) }
+        ensures below { IfSome result (λ i. i < reel_used self.now.lines self.now.memory.now) }
+    {
+        (0..self.used()).find(|line| u32::read_at(self.memory, place(*line)) == cell)
+    }
+
+    // The line that a write goes to, or why it is refused.
+    pub(crate) fn free_line(&self, at: u32, bytes: &[u8]) -> Result<u32, StoreFault>
+        ensures value { let r = self.now in let answer = write_answer (reel_cells r.cells) (reel_cell r.cells r.lines r.memory.now) (reel_takes r.cells r.lines r.memory.now) at bytes.now in MatchResult result (λ _. Ok tt ≡ answer) (λ f. Err f ≡ answer) }
+        ensures line { IfOk result (λ n. FreeLine self.now.cells self.now.lines self.now.memory.now at bytes.now n) }
+    {
+        self.check(at, bytes.len())?;
+        if self.find(at).is_some() {
+            return Err(StoreFault::Written(at));
         }
+        let n = self.used();
+        if n >= self.lines {
+            return Err(StoreFault::NoCell(at));
+        }
+        Ok(n)
     }
-    None
-}
-
-// Writes a number over 4 bytes.
-fn write_at(memory: &mut [u8], at: usize, value: u64)
-    requires { at + 4 ≤ length memory.old }
-    ensures { memory.new ≡ overwritten at (big_endian 4 value) memory.old }
-{
-    write_number(&mut memory[at..at + 4], value);
-}
-
-// Puts a line behind the n used ones, and counts it.
-pub(crate) fn put(memory: &mut [u8], n: usize, cell: u32, bytes: &[u8])
-    requires long { length bytes.now ≡ 24 }
-    requires inside { 32 + 28 * n ≤ length memory.old }
-    ensures { memory.new ≡ line_added n cell bytes.now memory.old }
-{
-    let first = 4 + 28 * n;
-    write_at(memory, first, cell as u64);
-    memory[first + 4..first + 28].copy_from_slice(bytes);
-    write_at(memory, 0, n as u64 + 1);
 }

@@ -1,22 +1,29 @@
 // A reel: cells with their numbers in the order of writing, in memory that the caller lends.
-ghost use Rattle.std.specs.Prelude.{◌≡◌, ℕ, false, is_ok, if◌then◌else◌};
-ghost use Rattle.stores.specs.Cells.{after_write, write_answer};
-ghost use Rattle.reels.specs.ReelLaws.{reel_laws};
-ghost use Rattle.reels.specs.Reels.{line_added, reel_cells, reel_cell, reel_takes, reel_used};
+ghost use Rattle.std.specs.Prelude.{◌+◌, ◌*◌, ◌≤◌, length};
+ghost use Rattle.stores.specs.Laws.{largest_store};
 
-use crate::lines::{find, room, used};
-use crate::writing::write_to;
+use crate::lines::place;
+use octets::memory::InMemory;
 use stores::fault::StoreFault;
-use stores::store::{CELL_LENGTH, LARGEST_STORE, Store};
+use stores::store::Store;
 
 #[derive(Drop)]
 pub struct Reel<'a> {
     pub(crate) memory: &'a mut [u8],
     pub(crate) cells: u32,
     pub(crate) lines: u32,
+    // Its cells and lines are as many as a store may have, and memory holds the count and the lines.
+    ghost few: { cells ≤ largest_store },
+    ghost few_lines: { lines ≤ largest_store },
+    ghost fits: { 4 + 28 * lines ≤ length memory.now },
 }
 
 impl<'a> Store for Reel<'a> {
+    ghost use Rattle.std.specs.Prelude.{◌≡◌, ℕ, false, is_ok, if◌then◌else◌};
+    ghost use Rattle.stores.specs.Cells.{after_write, write_answer};
+    ghost use Rattle.reels.specs.ReelLaws.{reel_laws};
+    ghost use Rattle.reels.specs.Reels.{line_added, reel_cells, reel_cell, reel_takes, reel_used};
+
     ghost cells = { λ r. reel_cells r.cells };
 
     ghost cell = { λ r. reel_cell r.cells r.lines r.memory.now };
@@ -26,34 +33,22 @@ impl<'a> Store for Reel<'a> {
     ghost laws = { reel_laws };
 
     fn size(&self) -> u32 {
-        self.cells.min(LARGEST_STORE)
+        self.cells
     }
 
     fn can_take(&self, at: u32) -> bool {
-        if at >= self.size() {
-            return false;
-        }
-        let n = used(self.memory, self.lines);
-        find(self.memory, n, at).is_none() && n < room(self.lines, self.memory.len())
+        at < self.cells && self.find(at).is_none() && self.used() < self.lines
     }
 
     fn read(&self, at: u32, buffer: &mut [u8]) -> Result<bool, StoreFault> {
-        if buffer.len() != CELL_LENGTH {
-            return Err(StoreFault::Length);
-        }
-        if at >= self.size() {
-            return Err(StoreFault::Beyond(at));
-        }
-        match find(self.memory, used(self.memory, self.lines), at) {
-            Some(i) => {
-                buffer.copy_from_slice(&self.memory[8 + 28 * i..32 + 28 * i]);
-                Ok(true)
-            }
-            None => {
-                buffer.fill(0);
-                Ok(false)
-            }
-        }
+        self.check(at, buffer.len())?;
+        let Some(line) = self.find(at) else {
+            buffer.fill(0);
+            return Ok(false);
+        };
+        let first = place(line);
+        buffer.copy_from_slice(&self.memory[first + 4..first + 28]);
+        Ok(true)
     }
 
     // Of all memory it changes the line behind the used ones and the count, and nothing where it is refused.
@@ -64,7 +59,11 @@ impl<'a> Store for Reel<'a> {
         ensures same { is_ok result ≡ false → self.new ≡ self.old }
         ensures memory { self.new.memory.now ≡ (if is_ok result then line_added (reel_used self.old.lines self.old.memory.now) at bytes.now self.old.memory.now else self.old.memory.now) }
     {
-        let (cells, lines) = (self.cells, self.lines);
-        write_to(self.memory, cells, lines, at, bytes)
+        let n = self.free_line(at, bytes)?;
+        let first = place(n);
+        at.write_at(self.memory, first);
+        self.memory[first + 4..first + 28].copy_from_slice(bytes);
+        (n + 1).write_at(self.memory, 0);
+        Ok(())
     }
 }

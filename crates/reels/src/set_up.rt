@@ -2,40 +2,38 @@
 ghost use Rattle.std.specs.Prelude.{◌≡◌, ◌+◌, ◌*◌, ◌≤◌, length, is_ok, if◌then◌else◌, Ok, Err, MatchResult, OnOk};
 ghost use Rattle.octets.specs.Overwriting.{zeroed};
 ghost use Rattle.stores.specs.Laws.{largest_store};
-ghost use Rattle.reels.specs.Reels.{in_range, reel_fit};
+ghost use Rattle.reels.specs.Reels.{reel_fit};
 
+use crate::lines::place;
 use crate::reel::Reel;
 use stores::fault::SetUpFault;
 use stores::store::LARGEST_STORE;
 
-// Whether a number of cells or of lines is one that a reel may have.
-fn in_range(number: u32) -> bool
-    ensures { result ≡ in_range number }
+// How many bytes the count and so many lines take, where so many bytes hold them.
+fn fit(cells: u32, lines: u32, bytes: usize) -> Result<usize, SetUpFault>
+    ensures value { MatchResult result (λ size. (reel_fit cells lines bytes ≡ Ok tt) × (size ≡ 4 + 28 * lines)) (λ f. reel_fit cells lines bytes ≡ Err f) }
+    ensures enough { OnOk result ((cells ≤ largest_store) × (lines ≤ largest_store) × (4 + 28 * lines ≤ bytes)) }
 {
-    number >= 1 && number <= LARGEST_STORE
-}
-
-// Whether memory of so many bytes holds so many lines.
-fn fit(cells: u32, lines: u32, bytes: usize) -> Result<(), SetUpFault>
-    ensures value { result ≡ reel_fit cells lines bytes }
-    ensures enough { OnOk result ((lines ≤ largest_store) × (4 + 28 * lines ≤ bytes)) }
-{
-    if !in_range(cells) || !in_range(lines) {
+    let range = 1..=LARGEST_STORE;
+    if !range.contains(&cells) || !range.contains(&lines) {
         return Err(SetUpFault::Setting);
     }
-    if 4 + 28 * lines as usize > bytes {
+    let size = place(lines);
+    if size > bytes {
         return Err(SetUpFault::Size);
     }
-    Ok(())
+    Ok(size)
 }
 
 // Zeroes the count and the bytes of so many lines, and no others.
+// (Every make sets up so, by its own numbers and its own test: one generic function would take the test and the size as
+// closures and say no more.)
 pub fn clear(memory: &mut [u8], cells: u32, lines: u32) -> Result<(), SetUpFault>
     ensures value { result ≡ reel_fit cells lines (length memory.old) }
     ensures after { memory.new ≡ (if is_ok result then zeroed (4 + 28 * lines) memory.old else memory.old) }
 {
-    fit(cells, lines, memory.len())?;
-    memory[0..4 + 28 * lines as usize].fill(0);
+    let size = fit(cells, lines, memory.len())?;
+    memory[..size].fill(0);
     Ok(())
 }
 
@@ -44,27 +42,23 @@ impl<'a> Reel<'a> {
     pub fn set_up(memory: &'a mut [u8], cells: u32, lines: u32) -> Result<Reel<'a>, SetUpFault>
         ensures { MatchResult result (λ s. (reel_fit cells lines (length memory.old) ≡ Ok tt) × (s.cells ≡ cells) × (s.lines ≡ lines) × (s.memory.now ≡ zeroed (4 + 28 * lines) memory.old)) (λ f. reel_fit cells lines (length memory.old) ≡ Err f) }
     {
-        match clear(memory, cells, lines) {
-            Ok(()) => Ok(Reel {
-                memory,
-                cells,
-                lines,
-            }),
-            Err(fault) => Err(fault),
-        }
+        clear(memory, cells, lines)?;
+        Ok(Reel {
+            memory,
+            cells,
+            lines,
+        })
     }
 
     // The reel that is in memory, whatever that holds.
     pub fn open(memory: &'a mut [u8], cells: u32, lines: u32) -> Result<Reel<'a>, SetUpFault>
         ensures { MatchResult result (λ s. (reel_fit cells lines (length memory.old) ≡ Ok tt) × (s.cells ≡ cells) × (s.lines ≡ lines) × (s.memory.now ≡ memory.old)) (λ f. reel_fit cells lines (length memory.old) ≡ Err f) }
     {
-        match fit(cells, lines, memory.len()) {
-            Ok(()) => Ok(Reel {
-                memory,
-                cells,
-                lines,
-            }),
-            Err(fault) => Err(fault),
-        }
+        fit(cells, lines, memory.len())?;
+        Ok(Reel {
+            memory,
+            cells,
+            lines,
+        })
     }
 }

@@ -2,8 +2,9 @@
 use piles::join::Join;
 use piles::window::Window;
 use plates::plate::Plate;
+use refusals::Refusal;
 use std::test::Fail;
-use stores::fault::StoreFault;
+use stores::fault::{SetUpFault, StoreFault};
 use stores::store::Store;
 
 #[test]
@@ -32,24 +33,30 @@ fn a_refusal_has_the_number_of_the_store_that_was_called(rt: HostRuntime) -> Res
     Ok(())
 }
 
-// The number of the refusal of a window on two cells, 0 where there is none.
-fn window_on_two(first: u32, count: u32) -> u32 {
+// Why there is no window on two cells, where there is none.
+fn window_on_two(first: u32, count: u32) -> Result<(), SetUpFault> {
     let mut memory = [0; 50];
-    match Plate::set_up(&mut memory, 2) {
-        Ok(plate) => match Window::new(plate, first, count) {
-            Ok(_) => 0,
-            Err(refused) => refused.fault.number(),
-        },
-        Err(fault) => fault.number(),
+    let plate = Plate::set_up(&mut memory, 2)?;
+    // no `map_err`: a closure that takes a store with its `&mut` by value gets no proof
+    match Window::new(plate, first, count) {
+        Ok(_) => Ok(()),
+        Err(refused) => Err(refused.fault),
     }
+}
+
+// The number of that refusal.
+fn number_on_two(first: u32, count: u32) -> Option<u32> {
+    window_on_two(first, count)
+        .err()
+        .map(|fault| fault.number())
 }
 
 #[test]
 fn a_window_has_cells_and_ends_inside(rt: HostRuntime) {
-    assert_eq!(rt; window_on_two(0, 2), 0);
-    assert_eq!(rt; window_on_two(1, 1), 0);
-    assert_eq!(rt; window_on_two(5, 0), 1);
-    assert_eq!(rt; window_on_two(2, 1), 3);
-    assert_eq!(rt; window_on_two(0, 3), 3);
-    assert_eq!(rt; window_on_two(u32::MAX, u32::MAX), 3);
+    assert_eq!(rt; number_on_two(0, 2), None);
+    assert_eq!(rt; number_on_two(1, 1), None);
+    assert_eq!(rt; number_on_two(5, 0), Some(1));
+    assert_eq!(rt; number_on_two(2, 1), Some(3));
+    assert_eq!(rt; number_on_two(0, 3), Some(3));
+    assert_eq!(rt; number_on_two(u32::MAX, u32::MAX), Some(3));
 }

@@ -39,10 +39,8 @@ fn length_goes_before_beyond(rt: HostRuntime) -> Result<(), Fail> {
 // Whether so many cells can be set up in 50 bytes.
 fn set_up(count: u32) -> Result<(), SetUpFault> {
     let mut memory = [0; 50];
-    match Plate::set_up(&mut memory, count) {
-        Ok(_) => Ok(()),
-        Err(fault) => Err(fault),
-    }
+    Plate::set_up(&mut memory, count)?;
+    Ok(())
 }
 
 #[test]

@@ -23,10 +23,8 @@ fn a_full_reel_takes_no_cell(rt: HostRuntime) -> Result<(), Fail> {
 // Whether so many cells and lines can be set up in 60 bytes.
 fn set_up(cells: u32, lines: u32) -> Result<(), SetUpFault> {
     let mut memory = [0; 60];
-    match Reel::set_up(&mut memory, cells, lines) {
-        Ok(_) => Ok(()),
-        Err(fault) => Err(fault),
-    }
+    Reel::set_up(&mut memory, cells, lines)?;
+    Ok(())
 }
 
 #[test]
