@@ -1,5 +1,5 @@
 -- Blocks just set up: bytes of no put, and every group live and empty.
-use Rattle.std.proofs.Common.{◌≡◌, ℕ, ◌+◌, ◌-◌, ◌*◌, ◌<◌, ◌≤◌, min, cond, List, [], ◌∷◌, length, take, replicate, is_ok, Ok, sym, ap, ◌∙◌, add-mul, arith}
+use Rattle.std.proofs.Common.{◌≡◌, ℕ, ◌+◌, ◌-◌, ◌*◌, ◌<◌, min, cond, List, [], ◌∷◌, length, take, replicate, is_ok, sym, ap, ◌∙◌, add-mul, arith}
 use Rattle.std.proofs.lemmas.Nat.{mul-le}
 use Rattle.std.proofs.lemmas.List.{replicate-append-replicate, take_all}
 use Rattle.std.proofs.lemmas.Bool.{cond-true, lt-ltb}
@@ -8,12 +8,13 @@ use Rattle.octets.proofs.Overwrites.{length-zeroed, zero_part}
 use Rattle.octets.proofs.Parts.{from_parts}
 use Rattle.keeps.specs.Groups.{live}
 use Rattle.keeps.specs.History.{none_gone}
-use Rattle.blocks.specs.Blocks.{block_of, block_size, blocks_fit, blocks_groups, blocks_pairs, blocks_size, group_in, pairs_in}
+use Rattle.blocks.specs.Blocks.{Fitting, block_of, block_size, blocks_fit, blocks_groups, blocks_pairs, blocks_size, group_in, pairs_in}
+use Rattle.blocks.specs.BlocksLaws.{all_groups}
 use Rattle.blocks.specs.Drawing.{block_with, drawn_block, drawn_blocks}
 use Rattle.blocks.proofs.Drawn.{count_with}
 use Rattle.blocks.proofs.Single.{group_live}
 
-module _ (groups slots : ℕ) (memory : List ℕ) (fits : blocks_fit groups slots (length memory) ≡ Ok tt) (enough : blocks_size groups slots ≤ length memory) where
+module _ (groups slots : ℕ) (memory : List ℕ) (fits : Fitting groups slots (length memory)) where
   abbrev new : List ℕ
   new = zeroed (blocks_size groups slots) memory
 
@@ -32,7 +33,7 @@ module _ (groups slots : ℕ) (memory : List ℕ) (fits : blocks_fit groups slot
       (λ i l. blank_block i l ∙ ap (block_with slots) (sym (take_all slots [] (omega arith))))
 
   all_there : blocks_groups groups slots new ≡ groups
-  all_there = ap (λ n. cond (is_ok (blocks_fit groups slots n)) groups 0) (length-zeroed (blocks_size groups slots) memory enough) ∙ ap (λ r. cond (is_ok r) groups 0) fits
+  all_there = ap (λ n. cond (is_ok (blocks_fit groups slots n)) groups 0) (length-zeroed (blocks_size groups slots) memory fits.enough) ∙ all_groups groups slots memory fits
 
   pub blank_groups : (i : ℕ) → i < groups → blocks_pairs groups slots new i ≡ live []
   unfolding pairs_in

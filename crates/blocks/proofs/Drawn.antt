@@ -11,10 +11,10 @@ use Rattle.octets.proofs.Overwrites.{one_of_parts}
 use Rattle.octets.proofs.Parts.{from_parts, to_parts}
 use Rattle.keeps.specs.Groups.{Pair}
 use Rattle.keeps.specs.History.{Put}
-use Rattle.blocks.specs.Blocks.{Standing, all_ones, block_gone, block_of, block_put, block_size, blocks_put, blocks_size, blocks_struck, count_in, record_of}
+use Rattle.blocks.specs.Blocks.{all_ones, block_gone, block_of, block_put, block_size, blocks_put, blocks_size, blocks_struck, count_in, record_of}
 use Rattle.blocks.specs.BlocksLaws.{fitting_there}
 use Rattle.blocks.specs.Drawing.{block_with, drawn_block, drawn_blocks, puts_of}
-use Rattle.blocks.proofs.Group.{length_block}
+use Rattle.blocks.proofs.Group.{Standing, length_block}
 use Rattle.blocks.proofs.Single.{count_gone, length_put}
 
 length_records : (pairs : List Pair) → length (flat_map record_of pairs) ≡ 12 * length pairs
@@ -124,14 +124,13 @@ module _ (groups slots : ℕ) (memory : List ℕ) (g : ℕ) (standing : Standing
   -- a group with a slot left is live, and its block has all its puts
   all_in_block : count_in (block_of slots memory g) < slots → (gone g ≡ false) × (length (puts_of g puts) < slots) × (block_of slots memory g ≡ block_with slots (puts_of g puts))
   all_in_block free =
-      let there = (fitting_there groups slots memory g standing.there).0 in
-      let old = old_block g there in
+      let old = old_block g (fitting_there groups slots memory g standing.there).0 in
       let pairs = puts_of g puts in
       elim (cases_Bool (gone g)) [
         | inl t ↦ absurd (standing.alive (ap count_in (old ∙ cond-true _ _ _ t) ∙ count_gone slots))
         | inr f ↦
             let is : block_of slots memory g ≡ block_with slots (take slots pairs) = old ∙ cond-false _ _ _ f in
-            let n : count_in (block_of slots memory g) ≡ length (take slots pairs) = ap count_in is ∙ count_with slots (take slots pairs) (simp length-take (omega (arith, standing.narrow))) in
+            let n : count_in (block_of slots memory g) ≡ length (take slots pairs) = ap count_in is ∙ count_with slots (take slots pairs) (simp length-take (omega (arith, standing.fits.narrow))) in
             let few : length pairs < slots = omega (arith, length-take slots pairs, n) in
             (f, few, is ∙ ap (block_with slots) (take_all slots pairs (omega arith)))
       ]
@@ -141,9 +140,9 @@ module _ (groups slots : ℕ) (memory : List ℕ) (g : ℕ) (standing : Standing
       let all = all_in_block free in
       let pairs = puts_of g puts in
       let more = puts ++ (record { group = g; cell = p.cell; locator = p.locator } ∷ []) in
-      one_block (block_put (block_of slots memory g) p) more gone (length_put slots (block_of slots memory g) p (length_block groups slots memory g standing) standing.narrow free)
+      one_block (block_put (block_of slots memory g) p) more gone (length_put slots (block_of slots memory g) p (length_block groups slots memory g standing) standing.fits.narrow free)
       (ap (λ b. block_put b p) all.2
-      ∙ put_with slots pairs p all.1 standing.narrow
+      ∙ put_with slots pairs p all.1 standing.fits.narrow
       ∙ ap (block_with slots) (sym (take_all slots (pairs ++ (p ∷ [])) (omega (arith, length_push pairs p, all.1))) ∙ ap (take slots) (sym (put_own g p puts)))
       ∙ sym (cond-false _ _ _ all.0))
       (λ i n. ap (λ qs. cond (gone i) (block_gone slots) (block_with slots (take slots qs))) (sym (put_other i g p puts n)))

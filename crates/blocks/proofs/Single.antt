@@ -3,6 +3,7 @@ use Rattle.std.proofs.Common.{◌≡◌, ℕ, ◌+◌, ◌*◌, ◌^◌, ◌<◌
 use Rattle.std.specs.List.{range_with_len}
 use Rattle.std.proofs.lemmas.List.FromFn.{length-map-range_with_len, get_or-map-range_with_len, map-range_with_len_more}
 use Rattle.std.proofs.lemmas.List.{drop_at, drop-drop, drop-replicate, drop-take, same_lists, take_at, take-take}
+use Rattle.std.proofs.lemmas.Option.{slice_get_past, slice_get_read}
 use Rattle.std.proofs.lemmas.Bool.{cond-false, cond-true, eq-eqb, ne_eqb}
 use Rattle.octets.specs.Numbers.{big_endian, number_at, spelled}
 use Rattle.octets.specs.Overwriting.{overwritten}
@@ -10,7 +11,7 @@ use Rattle.octets.proofs.Numbers.{length-big_endian, spelled_whole}
 use Rattle.octets.proofs.Overwrites.{length-overwritten, overwritten_two, part_before, part_behind, part_here}
 use Rattle.keeps.specs.declared.fault.KeepFault.TheVariants.{Stranger}
 use Rattle.keeps.specs.Groups.{Pair, in_slot, live, retired, with_pair}
-use Rattle.keeps.proofs.Slots.{slot_given, slot_past}
+use Rattle.keeps.proofs.Slots.{slot_none, slot_some}
 use Rattle.blocks.specs.Blocks.{all_ones, block_gone, block_put, block_size, count_in, group_in, pair_in, pairs_in, record_of, used_in}
 
 pub length_pairs : (b : List ℕ) (n : ℕ) → length (pairs_in b n) ≡ n
@@ -26,12 +27,12 @@ same_pair p q e f = λ i. record { cell = e i; locator = f i }
 
 -- What a slot answers.
 pub slot_unused : (b : List ℕ) (n slot cell : ℕ) → n ≤ slot → in_slot (pairs_in b n) slot cell ≡ Err (Stranger cell)
-slot_unused b n slot cell h = slot_past (pairs_in b n) slot cell (omega (arith, length_pairs b n))
+slot_unused b n slot cell h = sym (slot_none (pairs_in b n) slot cell (sym (slice_get_past (pairs_in b n) slot (omega (arith, length_pairs b n)))))
 
 pub slot_used : (b : List ℕ) (n slot cell : ℕ) → slot < n → in_slot (pairs_in b n) slot cell ≡ cond (eqb (number_at b (4 + 12 * slot) 4) cell) (Ok (number_at b (8 + 12 * slot) 8)) (Err (Stranger cell))
 slot_used b n slot cell h =
-    slot_given (pairs_in b n) slot cell (pair_in b slot) (omega (arith, length_pairs b n))
-    ∙ ap (λ p. cond (eqb p.cell cell) (Ok p.locator) (Err (Stranger cell))) (pair_of_slot b n slot (pair_in b slot) h)
+    let found = slice_get_read (pairs_in b n) n slot (pair_in b slot) (sym (length_pairs b n)) h (sym (pair_of_slot b n slot (pair_in b slot) h)) in
+    sym (slot_some (pairs_in b n) slot cell (pair_in b slot) (sym found))
 
 -- Of a group that is not retired.
 pub group_live : (slots : ℕ) (b : List ℕ) → (count_in b ≡ all_ones → ⊥) → group_in slots b ≡ live (pairs_in b (used_in slots b))

@@ -1,5 +1,5 @@
 -- Blocks: for each group a 4-byte count, all ones once it is retired, and its records, each a 4-byte cell and an 8-byte locator.
-use Rattle.std.specs.Prelude.{◌≡◌, ℕ, ◌+◌, ◌*◌, ◌<◌, ◌≤◌, min, Bool, cond, ◌&&◌, List, ◌++◌, map, length, take, drop, replicate, is_ok, Some, None, Ok, Err, Option, Result, ◌==◌, nat_le, nat_lt}
+use Rattle.std.specs.Prelude.{ℕ, ◌+◌, ◌*◌, ◌≤◌, min, Bool, cond, ◌&&◌, List, ◌++◌, map, length, take, drop, replicate, is_ok, Some, None, Ok, Err, Option, Result, ◌==◌, nat_le, nat_lt}
 use Rattle.std.specs.List.{range_with_len}
 use Rattle.octets.specs.Numbers.{big_endian, number_at}
 use Rattle.octets.specs.Overwriting.{overwritten}
@@ -21,6 +21,14 @@ in_range groups slots = (nat_le 1 groups && nat_le groups most_groups) && (nat_l
 -- Setting up and opening: SETTING for groups or slots out of range, then SIZE where memory is too short.
 abbrev pub blocks_fit : (groups slots long : ℕ) → Result (Unit {0}) SetUpFault
 blocks_fit groups slots long = cond (in_range groups slots) (cond (nat_le (blocks_size groups slots) long) (Ok tt) (Err Size)) (Err Setting)
+
+-- What numbers and memory that are not refused are like.
+pub record Fitting (groups slots long : ℕ) : Type 0 where
+  pub some : 1 ≤ groups
+  pub few : groups ≤ most_groups
+  pub wide : 1 ≤ slots
+  pub narrow : slots ≤ 65535
+  pub enough : blocks_size groups slots ≤ long
 
 -- The groups: none where the numbers or the memory do not fit.
 abbrev pub blocks_groups : (groups slots : ℕ) (memory : List ℕ) → ℕ
@@ -53,18 +61,6 @@ group_in slots block = cond (count_in block == all_ones) retired (live (pairs_in
 
 abbrev pub blocks_pairs : (groups slots : ℕ) (memory : List ℕ) (i : ℕ) → Group
 blocks_pairs groups slots memory i = cond (nat_lt i (blocks_groups groups slots memory)) (group_in slots (block_of slots memory i)) retired
-
--- Group g is there, and not retired.
-pub record Standing (groups slots : ℕ) (memory : List ℕ) (g : ℕ) : Type 0 where
-  pub there : g < blocks_groups groups slots memory
-  pub alive : count_in (block_of slots memory g) ≡ all_ones → ⊥
-  pub narrow : slots ≤ 65535
-  pub inside : g * block_size slots + block_size slots ≤ length memory
-
--- It has a slot left.
-pub record Spacious (groups slots : ℕ) (memory : List ℕ) (g : ℕ) : Type 0 where
-  pub standing : Standing groups slots memory g
-  pub free : count_in (block_of slots memory g) < slots
 
 -- A group takes a pair while it has fewer than there are slots.
 abbrev pub blocks_room : (groups slots : ℕ) (memory : List ℕ) (i : ℕ) → Bool

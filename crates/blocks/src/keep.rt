@@ -1,78 +1,107 @@
 // Blocks as a keep.
-ghost use Rattle.std.specs.Prelude.{◌≡◌, ℕ, Bool, false, List, [], ◌∷◌, take, is_ok, if◌then◌else◌};
-ghost use Rattle.keeps.specs.Groups.{after_put, after_strike, put_answer, strike_answer};
-ghost use Rattle.keeps.specs.History.{Put, with_gone, with_put};
-ghost use Rattle.blocks.specs.Blocks.{blocks_groups, blocks_pairs, blocks_put, blocks_room, blocks_size, blocks_struck};
-ghost use Rattle.blocks.specs.BlocksLaws.{blocks_laws};
+ghost use Rattle.std.specs.Prelude.{◌≡◌, ◌+◌, ◌≤◌, ◌*◌, ◌<◌, length, is_ok, if◌then◌else◌};
+ghost use Rattle.keeps.specs.Done.{PutDone, StrikeDone};
+ghost use Rattle.blocks.specs.Blocks.{Fitting, block_of, block_size, blocks_put, blocks_struck};
 ghost use Rattle.blocks.specs.Drawing.{drawn_blocks};
 
-use crate::memory::{check_in, count_groups, get_in, has_room_in, put_in, strike_in};
+use crate::block::{RETIRED, add, locator_in, used, wipe};
+use crate::memory::block_size;
 use keeps::fault::KeepFault;
 use keeps::keep::Keep;
+use octets::memory::InMemory;
+use std::ops::Range;
 
 #[derive(Drop)]
 pub struct Blocks<'a> {
     pub(crate) memory: &'a mut [u8],
     pub(crate) groups: u32,
     pub(crate) slots: u32,
+    // The numbers are in range, and memory holds so many groups of so many slots.
+    ghost fits: { Fitting groups slots (length memory.now) },
+}
+
+impl<'a> Blocks<'a> {
+    // Where the block of a group lies.
+    fn place_of(&self, group: u16) -> Range<usize>
+        requires { group < self.now.groups }
+        ensures first { result.start ≡ group * block_size self.now.slots }
+        ensures last { result.end ≡ group * block_size self.now.slots + block_size self.now.slots }
+        ensures inside { result.end ≤ length self.now.memory.now }
+    {
+        let start = group as usize * block_size(self.slots);
+        start..start + block_size(self.slots)
+    }
+
+    // The block of a group.
+    fn block_of(&self, group: u16) -> &[u8]
+        requires { group < self.now.groups }
+        ensures { result.now ≡ block_of self.now.slots self.now.memory.now group }
+    {
+        &self.memory[self.place_of(group)]
+    }
 }
 
 impl<'a> Keep for Blocks<'a> {
-    ghost groups = { λ b. blocks_groups b.groups b.slots b.memory.now };
+    ghost use Rattle.blocks.specs.BlocksLaws.{blocks_laws, bytes_of, groups_of, numbers_of, pairs_of, room_of};
 
-    ghost pairs = { λ b. blocks_pairs b.groups b.slots b.memory.now };
+    ghost groups = { groups_of };
 
-    ghost room = { λ b. blocks_room b.groups b.slots b.memory.now };
+    ghost pairs = { pairs_of };
 
-    ghost numbers = { λ b. b.groups ∷ (b.slots ∷ []) };
+    ghost room = { room_of };
 
-    ghost bytes = { λ b. take (blocks_size b.groups b.slots) b.memory.now };
+    ghost numbers = { numbers_of };
+
+    ghost bytes = { bytes_of };
 
     ghost drawn = { drawn_blocks };
 
     ghost laws = { blocks_laws };
 
     fn group_count(&self) -> u16 {
-        count_groups(self.groups, self.slots, self.memory.len())
+        self.groups as u16
     }
 
     fn check(&self, group: u16) -> Result<(), KeepFault> {
-        check_in(self.memory, self.groups, self.slots, group)
+        if u32::from(group) >= self.groups {
+            return Err(KeepFault::Group(group));
+        }
+        if u32::read_at(self.block_of(group), 0) == RETIRED {
+            return Err(KeepFault::Gone(group));
+        }
+        Ok(())
     }
 
     fn has_room(&self, group: u16) -> bool {
-        has_room_in(self.memory, self.groups, self.slots, group)
+        u32::from(group) < self.groups && u32::read_at(self.block_of(group), 0) < self.slots
     }
 
     fn get(&self, group: u16, slot: u32, cell: u32) -> Result<u64, KeepFault> {
-        get_in(self.memory, self.groups, self.slots, group, slot, cell)
+        self.check(group)?;
+        locator_in(self.block_of(group), self.slots, slot, cell)
     }
 
     // Of all memory it changes the block of the group, and nothing where it is refused.
     fn put(&mut self, group: u16, cell: u32, locator: u64) -> Result<u32, KeepFault>
-        ensures value { result ≡ put_answer (blocks_groups self.old.groups self.old.slots self.old.memory.now) (blocks_pairs self.old.groups self.old.slots self.old.memory.now) (blocks_room self.old.groups self.old.slots self.old.memory.now) group }
-        ensures after { (i : ℕ) → blocks_pairs self.new.groups self.new.slots self.new.memory.now i ≡ after_put result (blocks_pairs self.old.groups self.old.slots self.old.memory.now) group (record { cell = cell; locator = locator }) i }
-        ensures history { (puts : List Put) (gone : ℕ → Bool) → take (blocks_size self.old.groups self.old.slots) self.old.memory.now ≡ drawn_blocks (self.old.groups ∷ (self.old.slots ∷ [])) puts gone → take (blocks_size self.new.groups self.new.slots) self.new.memory.now ≡ drawn_blocks (self.old.groups ∷ (self.old.slots ∷ [])) (with_put result puts (record { group = group; cell = cell; locator = locator })) gone }
-        ensures size { blocks_groups self.new.groups self.new.slots self.new.memory.now ≡ blocks_groups self.old.groups self.old.slots self.old.memory.now }
-        ensures made { self.new.groups ∷ (self.new.slots ∷ []) ≡ self.old.groups ∷ (self.old.slots ∷ []) }
-        ensures same { is_ok result ≡ false → self.new ≡ self.old }
+        ensures done { PutDone groups_of pairs_of room_of numbers_of bytes_of drawn_blocks self.old self.new group cell locator result }
         ensures memory { self.new.memory.now ≡ (if is_ok result then blocks_put self.old.slots self.old.memory.now group (record { cell = cell; locator = locator }) else self.old.memory.now) }
     {
-        let (groups, slots) = (self.groups, self.slots);
-        put_in(self.memory, groups, slots, group, cell, locator)
+        self.check(group)?;
+        let place = self.place_of(group);
+        let block = &mut self.memory[place];
+        add(block, self.slots, cell, locator).ok_or(KeepFault::NoSlot(group))
     }
 
     // Of all memory it changes the block of the group, and nothing where it is refused.
     fn strike(&mut self, group: u16) -> Result<u32, KeepFault>
-        ensures value { result ≡ strike_answer (blocks_groups self.old.groups self.old.slots self.old.memory.now) (blocks_pairs self.old.groups self.old.slots self.old.memory.now) group }
-        ensures after { (i : ℕ) → blocks_pairs self.new.groups self.new.slots self.new.memory.now i ≡ after_strike result (blocks_pairs self.old.groups self.old.slots self.old.memory.now) group i }
-        ensures history { (puts : List Put) (gone : ℕ → Bool) → take (blocks_size self.old.groups self.old.slots) self.old.memory.now ≡ drawn_blocks (self.old.groups ∷ (self.old.slots ∷ [])) puts gone → take (blocks_size self.new.groups self.new.slots) self.new.memory.now ≡ drawn_blocks (self.old.groups ∷ (self.old.slots ∷ [])) puts (with_gone result gone group) }
-        ensures size { blocks_groups self.new.groups self.new.slots self.new.memory.now ≡ blocks_groups self.old.groups self.old.slots self.old.memory.now }
-        ensures made { self.new.groups ∷ (self.new.slots ∷ []) ≡ self.old.groups ∷ (self.old.slots ∷ []) }
-        ensures same { is_ok result ≡ false → self.new ≡ self.old }
+        ensures done { StrikeDone groups_of pairs_of numbers_of bytes_of drawn_blocks self.old self.new group result }
         ensures memory { self.new.memory.now ≡ (if is_ok result then blocks_struck self.old.slots self.old.memory.now group else self.old.memory.now) }
     {
-        let (groups, slots) = (self.groups, self.slots);
-        strike_in(self.memory, groups, slots, group)
+        self.check(group)?;
+        let place = self.place_of(group);
+        let block = &mut self.memory[place];
+        let pairs = used(block, self.slots);
+        wipe(block, self.slots);
+        Ok(pairs)
     }
 }

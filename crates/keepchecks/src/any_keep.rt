@@ -1,4 +1,5 @@
 // What a keep of any make shows on the same calls.
+use keeps::checks::strike_both;
 use keeps::fault::KeepFault;
 use keeps::keep::Keep;
 use std::process::Abort;
@@ -32,4 +33,19 @@ pub fn strikes_for_good(rt: &impl Abort, keep: &mut impl Keep) {
     assert_eq!(rt; keep.get(0, 9, 9), Err(KeepFault::Gone(0)));
     assert_eq!(rt; keep.check(0), Err(KeepFault::Gone(0)));
     assert!(rt; !keep.has_room(0));
+}
+
+// Puts one pair into group 0 of an empty keep, and strikes the group.
+pub fn puts_and_strikes(rt: &impl Abort, keep: &mut impl Keep, cell: u32, locator: u64) {
+    assert_eq!(rt; keep.put(0, cell, locator), Ok(0));
+    assert_eq!(rt; keep.strike(0), Ok(1));
+}
+
+// Puts another pair into group 0 of each of two empty keeps, and strikes the group in both.
+pub fn struck_in_both<K: Keep>(rt: &impl Abort, one: &mut K, other: &mut K) {
+    assert_eq!(rt; one.put(0, 5, 700), Ok(0));
+    assert_eq!(rt; other.put(0, 6, u64::MAX), Ok(0));
+    let (first, second) = strike_both(one, other, 0);
+    assert_eq!(rt; first, Ok(1));
+    assert_eq!(rt; second, Ok(1));
 }

@@ -1,5 +1,5 @@
 // Blocks: a full group, what is left of a struck one, the order of refusals.
-use crate::any_keep::{answers_in_order, strikes_for_good};
+use crate::any_keep::{answers_in_order, puts_and_strikes, strikes_for_good, struck_in_both};
 use blocks::keep::Blocks;
 use keeps::fault::KeepFault;
 use keeps::keep::Keep;
@@ -45,8 +45,7 @@ fn struck_with(rt: &impl Abort, byte: u8, cell: u32, locator: u64) -> Result<[u8
     let mut memory = [byte; 16];
     {
         let mut keep = Blocks::set_up(&mut memory, 1, 1)?;
-        assert_eq!(rt; keep.put(0, cell, locator), Ok(0));
-        assert_eq!(rt; keep.strike(0), Ok(1));
+        puts_and_strikes(rt, &mut keep, cell, locator);
     }
     Ok(memory)
 }
@@ -60,13 +59,24 @@ fn nothing_is_left_to_recover(rt: HostRuntime) -> Result<(), Fail> {
     Ok(())
 }
 
+// The same of two keeps that are struck together.
+#[test]
+fn two_struck_keeps_hold_equal_bytes(rt: HostRuntime) -> Result<(), Fail> {
+    let (mut one, mut other) = ([7; 16], [9; 16]);
+    {
+        let mut first = Blocks::set_up(&mut one, 1, 1)?;
+        let mut second = Blocks::set_up(&mut other, 1, 1)?;
+        struck_in_both(&rt, &mut first, &mut second);
+    }
+    assert_eq!(rt; one, other);
+    Ok(())
+}
+
 // Whether so many groups of so many slots can be set up in 60 bytes.
 fn set_up(groups: u32, slots: u32) -> Result<(), SetUpFault> {
     let mut memory = [0; 60];
-    match Blocks::set_up(&mut memory, groups, slots) {
-        Ok(_) => Ok(()),
-        Err(fault) => Err(fault),
-    }
+    Blocks::set_up(&mut memory, groups, slots)?;
+    Ok(())
 }
 
 #[test]

@@ -1,16 +1,16 @@
--- A slot among pairs.
-use Rattle.std.proofs.Common.{◌≡◌, ℕ, zero, suc, ◌<◌, ◌≤◌, cond, eqb, List, [], ◌∷◌, length, get_or, Ok, Err, refl, arith}
+-- A slot among pairs, by what is found there.
+use Rattle.std.proofs.Common.{◌≡◌, ℕ, zero, suc, cond, eqb, List, [], ◌∷◌, slice_get, Some, None, Ok, Err, refl, ap}
 use Rattle.keeps.specs.declared.fault.KeepFault.TheVariants.{Stranger}
 use Rattle.keeps.specs.Groups.{Pair, in_slot}
 
 -- A slot that was not given out.
-pub slot_past : (pairs : List Pair) (slot cell : ℕ) → length pairs ≤ slot → in_slot pairs slot cell ≡ Err (Stranger cell)
-slot_past [] slot cell h = refl
-slot_past (p ∷ pairs) zero cell h = absurd (omega arith)
-slot_past (p ∷ pairs) (suc slot) cell h = slot_past pairs slot cell (omega arith)
+pub slot_none : (pairs : List Pair) (slot cell : ℕ) → None ≡ slice_get pairs slot → Err (Stranger cell) ≡ in_slot pairs slot cell
+slot_none [] slot cell e = refl
+slot_none (p ∷ pairs) zero cell e = absurd cc
+slot_none (p ∷ pairs) (suc slot) cell e = slot_none pairs slot cell e
 
--- A slot that was given out, by what stands there.
-pub slot_given : (pairs : List Pair) (slot cell : ℕ) (none : Pair) → slot < length pairs → in_slot pairs slot cell ≡ cond (eqb (get_or pairs slot none).cell cell) (Ok (get_or pairs slot none).locator) (Err (Stranger cell))
-slot_given [] slot cell none h = absurd (omega arith)
-slot_given (p ∷ pairs) zero cell none h = refl
-slot_given (p ∷ pairs) (suc slot) cell none h = slot_given pairs slot cell none (omega arith)
+-- A slot that was given out.
+pub slot_some : (pairs : List Pair) (slot cell : ℕ) (p : Pair) → Some p ≡ slice_get pairs slot → cond (eqb p.cell cell) (Ok p.locator) (Err (Stranger cell)) ≡ in_slot pairs slot cell
+slot_some [] slot cell p e = absurd cc
+slot_some (q ∷ pairs) zero cell p e = let same : p ≡ q = cc in ap (λ (r : Pair). cond (eqb r.cell cell) (Ok r.locator) (Err (Stranger cell))) same
+slot_some (q ∷ pairs) (suc slot) cell p e = slot_some pairs slot cell p e

@@ -1,6 +1,5 @@
 -- A struck group has left no trace: puts that differ only in its cells and locators give equal bytes.
-use Rattle.std.proofs.Common.{◌≡◌, ℕ, Bool, true, false, cond, eqb, List, [], ◌∷◌, map, is_ok, Ok, Err, Result, sym, refl, ap, ◌∙◌, inl, inr}
-use borrow.Author.Tests.{both_ways}
+use Rattle.std.proofs.Common.{◌≡◌, ℕ, Bool, true, cond, eqb, List, [], ◌∷◌, map, is_ok, Ok, Err, Result, sym, refl, ap, ◌∙◌, inl, inr}
 use Rattle.std.proofs.lemmas.Bool.{cases_Bool}
 use Rattle.keeps.specs.History.{Put, Alike, AlikeBut, Forgets, erased, with_gone}
 
@@ -10,7 +9,7 @@ and_gone gone group i = cond (eqb i group) true (gone i)
 
 pub gone_accepted : {A E : Type 0} (r : Result A E) (gone : ℕ → Bool) (group : ℕ) → is_ok r ≡ true → with_gone r gone group ≡ and_gone gone group
 gone_accepted (Ok n) gone group ok = refl
-gone_accepted (Err f) gone group ok = absurd (both_ways false refl ok)
+gone_accepted (Err f) gone group ok = absurd cc
 
 module _ (gone : ℕ → Bool) (group : ℕ) where
   erased_anyway : (p : Put) → erased (and_gone gone group) (erased (λ i. eqb i group) p) ≡ erased (and_gone gone group) p

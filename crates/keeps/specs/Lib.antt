@@ -1,4 +1,5 @@
 pub mod Bytes
+pub mod Done
 pub mod Groups
 pub mod History
 pub mod Laws

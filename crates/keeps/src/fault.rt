@@ -1,6 +1,8 @@
 // Why a keep refuses.
-ghost use Rattle.std.specs.Prelude.{◌≡◌};
+ghost use Rattle.std.specs.Prelude.{◌≡◌, Some};
 ghost use Rattle.keeps.specs.Refusal.{keep_number, keep_detail};
+
+use refusals::Refusal;
 
 #[derive(Clone, Copy, PartialEq, Eq, Debug)]
 pub enum KeepFault {
@@ -14,11 +16,12 @@ pub enum KeepFault {
     Stranger(u32),
 }
 
-impl KeepFault {
-    // The refusal's number.
-    pub fn number(&self) -> u32
-        ensures { result ≡ keep_number self.now }
-    {
+impl Refusal for KeepFault {
+    ghost number_of = { keep_number };
+
+    ghost detail_of = { λ f. Some (keep_detail f) };
+
+    fn number(&self) -> u32 {
         match self {
             KeepFault::Group(_) => 5,
             KeepFault::Gone(_) => 6,
@@ -27,14 +30,12 @@ impl KeepFault {
         }
     }
 
-    // The refusal's detail.
-    pub fn detail(&self) -> u64
-        ensures { result ≡ keep_detail self.now }
-    {
-        match self {
-            KeepFault::Group(group) | KeepFault::Gone(group) | KeepFault::NoSlot(group) =>
-                u64::from(*group),
+    fn detail(&self) -> Option<u64> {
+        Some(match self {
+            KeepFault::Group(group) | KeepFault::Gone(group) | KeepFault::NoSlot(group) => {
+                u64::from(*group)
+            }
             KeepFault::Stranger(cell) => u64::from(*cell),
-        }
+        })
     }
 }

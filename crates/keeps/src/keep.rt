@@ -1,7 +1,8 @@
 // What a keep is.
-ghost use Rattle.std.specs.Prelude.{◌≡◌, ℕ, Bool, false, List, is_ok};
-ghost use Rattle.keeps.specs.Groups.{Group, after_put, after_strike, check_answer, get_answer, put_answer, strike_answer};
-ghost use Rattle.keeps.specs.History.{Put, with_gone, with_put};
+ghost use Rattle.std.specs.Prelude.{◌≡◌, ℕ, Bool, List};
+ghost use Rattle.keeps.specs.Done.{PutDone, StrikeDone};
+ghost use Rattle.keeps.specs.Groups.{Group, check_answer, get_answer};
+ghost use Rattle.keeps.specs.History.{Put};
 ghost use Rattle.keeps.specs.Laws.{KeepLaws};
 
 use crate::fault::KeepFault;
@@ -46,19 +47,9 @@ pub trait Keep {
 
     // Adds a pair at the end of a group, and gives its slot; refused, it leaves the keep as it was.
     fn put(&mut self, group: u16, cell: u32, locator: u64) -> Result<u32, KeepFault>
-        ensures value { result ≡ put_answer (groups self.old) (pairs self.old) (room self.old) group }
-        ensures after { (i : ℕ) → pairs self.new i ≡ after_put result (pairs self.old) group (record { cell = cell; locator = locator }) i }
-        ensures history { (puts : List Put) (gone : ℕ → Bool) → bytes self.old ≡ drawn (numbers self.old) puts gone → bytes self.new ≡ drawn (numbers self.old) (with_put result puts (record { group = group; cell = cell; locator = locator })) gone }
-        ensures size { groups self.new ≡ groups self.old }
-        ensures made { numbers self.new ≡ numbers self.old }
-        ensures same { is_ok result ≡ false → self.new ≡ self.old };
+        ensures done { PutDone groups pairs room numbers bytes drawn self.old self.new group cell locator result };
 
     // Retires a group for good, and says how many pairs it had; refused, it leaves the keep as it was.
     fn strike(&mut self, group: u16) -> Result<u32, KeepFault>
-        ensures value { result ≡ strike_answer (groups self.old) (pairs self.old) group }
-        ensures after { (i : ℕ) → pairs self.new i ≡ after_strike result (pairs self.old) group i }
-        ensures history { (puts : List Put) (gone : ℕ → Bool) → bytes self.old ≡ drawn (numbers self.old) puts gone → bytes self.new ≡ drawn (numbers self.old) puts (with_gone result gone group) }
-        ensures size { groups self.new ≡ groups self.old }
-        ensures made { numbers self.new ≡ numbers self.old }
-        ensures same { is_ok result ≡ false → self.new ≡ self.old };
+        ensures done { StrikeDone groups pairs numbers bytes drawn self.old self.new group result };
 }

@@ -1,5 +1,5 @@
 -- A ledger that is just set up: its bytes are drawn from no put, and every group is live and empty.
-use Rattle.std.proofs.Common.{◌≡◌, ℕ, ◌+◌, ◌*◌, ◌<◌, ◌≤◌, min, true, eqb, List, [], ◌∷◌, length, get_or, take, replicate, is_ok, Ok, sym, ap, ◌∙◌, arith}
+use Rattle.std.proofs.Common.{◌≡◌, ℕ, ◌+◌, ◌*◌, ◌<◌, min, true, cond, eqb, List, [], ◌∷◌, length, get_or, take, replicate, is_ok, sym, ap, ◌∙◌, arith}
 use Rattle.std.proofs.lemmas.List.FromFn.{fill_by_all}
 use Rattle.std.proofs.lemmas.List.{get_or-replicate, length-replicate}
 use Rattle.std.proofs.lemmas.Bool.{cond-true, cond-false, le-ltb}
@@ -8,7 +8,8 @@ use Rattle.octets.specs.Overwriting.{zeroed}
 use Rattle.octets.proofs.Overwrites.{length-zeroed, zero_part}
 use Rattle.keeps.specs.Groups.{live}
 use Rattle.keeps.specs.History.{none_gone}
-use Rattle.ledgers.specs.Ledgers.{drawn_ledger, drawn_state, ledger_fit, ledger_groups, ledger_live, ledger_pairs, ledger_size, pairs_of, rows, used}
+use Rattle.ledgers.specs.Ledgers.{Fitting, drawn_ledger, drawn_state, ledger_fit, ledger_groups, ledger_live, ledger_pairs, ledger_size, pairs_of, rows, used}
+use Rattle.ledgers.specs.LedgerLaws.{all_groups}
 use Rattle.ledgers.proofs.Drawn.{from_drawn}
 
 module _ (groups lines : ℕ) (m : List ℕ) where
@@ -24,12 +25,12 @@ module _ (groups lines : ℕ) (m : List ℕ) where
         each = λ j l. zero_part (ledger_size groups lines) (groups + 4 + j * 14) 14 m (omega arith) ∙ sym (cond-false _ _ _ (le-ltb j 0 (omega arith)));
       })
 
-  module _ (ok : ledger_fit groups lines (length m) ≡ Ok tt) (enough : ledger_size groups lines ≤ length m) where
+  module _ (fits : Fitting groups lines (length m)) where
     length_new : length new ≡ length m
-    length_new = length-zeroed (ledger_size groups lines) m enough
+    length_new = length-zeroed (ledger_size groups lines) m fits.enough
 
     groups_new : ledger_groups groups lines new ≡ groups
-    groups_new = cond-true _ _ _ (ap (λ k. is_ok (ledger_fit groups lines k)) length_new ∙ ap is_ok ok)
+    groups_new = ap (λ k. cond (is_ok (ledger_fit groups lines k)) groups 0) length_new ∙ all_groups groups lines m fits
 
     live_new : (i : ℕ) → i < groups → ledger_live groups lines new i ≡ true
     live_new i l =

@@ -1,14 +1,15 @@
 -- Lines that are struck one behind the other, and what each is then.
-use Rattle.std.proofs.Common.{◌≡◌, ℕ, suc, ◌+◌, ◌*◌, ◌≤◌, Bool, true, false, cond, eqb, ltb, List, ◌++◌, length, take, drop, sym, refl, ap, ◌∙◌, inl, inr, arith, length-drop, length-take}
+use Rattle.std.proofs.Common.{◌≡◌, ℕ, suc, ◌+◌, ◌*◌, ◌≤◌, Bool, true, false, cond, eqb, ltb, List, ◌++◌, length, take, drop, sym, ap, ◌∙◌, inl, inr, arith, length-drop, length-take}
 use Rattle.std.specs.List.{range_with_len, flat_map}
 use Rattle.std.proofs.lemmas.List.{drop-drop}
 use Rattle.std.proofs.lemmas.Bool.{cases_lt, cond-true, cond-false, eq-eqb, le-ltb, lt-ltb, ne_eqb}
 use Rattle.octets.specs.Numbers.{number_at, spelled}
 use Rattle.octets.specs.Overwriting.{overwritten}
 use Rattle.octets.proofs.Overwrites.{length-overwritten, overwritten_same, overwritten_two, part_before, part_behind, part_here}
+use Rattle.octets.proofs.Places.{number_in_part}
 use Rattle.octets.proofs.Parts.{AllWide, joined_more, length_parts, to_parts}
 use Rattle.ledgers.specs.Ledgers.{line, line_of, lines_struck, struck_line}
-use Rattle.ledgers.proofs.Rows.{length_line, number_first}
+use Rattle.ledgers.proofs.Rows.{length_line}
 
 module _ (at g : ℕ) (m : List ℕ) where
   abbrev struck_at : ℕ → List ℕ
@@ -40,8 +41,10 @@ module _ (at g : ℕ) (m : List ℕ) where
     next_kept : (k : ℕ) → take k (drop (at + j * 14) (lines_struck at j g m)) ≡ take k (drop (at + j * 14) m)
     next_kept k = part_behind at so_far m fits (at + j * 14) k (omega (arith, length_so_far))
 
-    pub next_number : (start : ℕ) → start ≡ at + j * 14 → number_at (lines_struck at j g m) start 2 ≡ number_at (line at m j) 0 2
-    next_number start e = ap (λ k. number_at (lines_struck at j g m) k 2) e ∙ ap spelled (next_kept 2) ∙ number_first at m j (at + j * 14) refl
+    pub next_number : number_at (lines_struck at j g m) (at + j * 14) 2 ≡ number_at (line at m j) 0 2
+    next_number =
+        let first : at + j * 14 ≡ at + j * 14 + 0 = omega arith in
+        ap spelled (next_kept 2) ∙ ap (λ k. number_at m k 2) first ∙ sym (number_in_part 14 (at + j * 14) 0 2 m (omega arith))
 
     one_more : overwritten (at + j * 14) (struck_at j) (lines_struck at j g m) ≡ lines_struck at (j + 1) g m
     one_more =

@@ -1,8 +1,7 @@
-pub mod Blank
-pub mod Drawn
-pub mod Erasing
-pub mod Live
-pub mod Putting
-pub mod Refused
-pub mod Rows
-pub mod Striking
+mod Blank
+mod Drawn
+mod Erasing
+mod Live
+mod Putting
+mod Rows
+mod Striking

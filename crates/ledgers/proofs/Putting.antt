@@ -9,9 +9,10 @@ use Rattle.octets.proofs.Numbers.{length-big_endian, spelled_whole}
 use Rattle.octets.proofs.Overwrites.{length-overwritten, one_of_parts, part_before, part_behind, part_here}
 use Rattle.keeps.specs.Groups.{Pair, changed, live, retired, with_pair}
 use Rattle.keeps.specs.History.{Put, erased}
-use Rattle.ledgers.specs.Ledgers.{LiveIn, drawn_ledger, drawn_line, drawn_state, ledger_fit, ledger_groups, ledger_live, ledger_pairs, ledger_put, ledger_size, line, line_of, no_put, pair_on, pairs_of, put_line, rows, used}
+use Rattle.ledgers.specs.Ledgers.{drawn_ledger, drawn_line, drawn_state, ledger_fit, ledger_groups, ledger_live, ledger_pairs, ledger_put, ledger_size, line, line_of, no_put, pair_on, pairs_of, put_line, rows, used}
+use Rattle.ledgers.specs.LedgerLaws.{all_groups}
 use Rattle.ledgers.proofs.Drawn.{DrawnIn, from_drawn, to_drawn}
-use Rattle.ledgers.proofs.Live.{all_groups, is_live}
+use Rattle.ledgers.proofs.Live.{LiveIn, is_live}
 use Rattle.ledgers.proofs.Rows.{length_line, line_group, line_pair, rows_same}
 
 -- One line more, at the end.
@@ -90,13 +91,13 @@ module _ (groups lines : ℕ) (old : List ℕ) (g cell locator : ℕ) (g16 : g <
       ∙ ap (λ p. pairs_of i (rows (groups + 4) old n) ++ cond (eqb g i) (p ∷ []) []) (line_pair g cell locator c32 l64)
       ∙ ap (λ k. pairs_of i (rows (groups + 4) old k) ++ cond (eqb g i) (pair ∷ []) []) same
 
-  groups_new : ledger_groups groups lines new ≡ ledger_groups groups lines old
+  pub groups_new : ledger_groups groups lines new ≡ ledger_groups groups lines old
   groups_new = ap (λ k. cond (is_ok (ledger_fit groups lines k)) groups 0) length_new
 
   live_new : (i : ℕ) → ledger_live groups lines new i ≡ ledger_live groups lines old i
   live_new i =
       ap (λ k. eqb (get_or (take k new) i 1) 0) groups_new
-      ∙ ap (λ xs. eqb (get_or xs i 1) 0) (states_new (ledger_groups groups lines old) (omega (arith, all_groups groups lines old g alive.there)))
+      ∙ ap (λ xs. eqb (get_or xs i 1) 0) (states_new (ledger_groups groups lines old) (omega (arith, all_groups groups lines old alive.fits)))
 
   group_new : (i : ℕ) → ledger_pairs groups lines new i ≡ cond (ledger_live groups lines old i) (live (after i)) retired
   group_new i =

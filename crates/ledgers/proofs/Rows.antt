@@ -1,62 +1,70 @@
 -- The lines of a ledger: their numbers, and the pairs that they have for a group.
-use Rattle.std.proofs.Common.{◌≡◌, ℕ, ◌+◌, ◌*◌, ◌^◌, ◌<◌, ◌≤◌, List, [], ◌∷◌, ◌++◌, map, length, get_or, take, drop, sym, ap, ◌∙◌, arith, length-append, length-drop}
-use Rattle.std.specs.List.{range_with_len}
+use Rattle.std.proofs.Common.{◌≡◌, ℕ, zero, suc, ◌+◌, ◌-◌, ◌*◌, ◌^◌, ◌<◌, ◌≤◌, Bool, eqb, List, [], ◌∷◌, ◌++◌, map, length, get_or, take, drop, Some, None, Option, sym, refl, ap, ◌∙◌, inl, inr, suc-mul, zero-mul, arith, length-append}
+use Rattle.std.specs.Borrow.{Bor}
+use Rattle.std.specs.List.{filter, range_with_len, slice_get}
+use Rattle.std.specs.Option.{option_map}
+use Rattle.std.specs.Simd.{first_chunks}
 use Rattle.std.proofs.lemmas.List.FromFn.{fill_by_all, get_or-map-range_with_len, length-map-range_with_len}
-use Rattle.std.proofs.lemmas.List.{append_assoc, drop_all, drop_at, drop_more, get_or-drop, take_all, take_at}
-use Rattle.std.proofs.lemmas.Bool.{cond-true, cond-false, eq-eqb, ne_eqb}
+use Rattle.std.proofs.lemmas.List.{append_assoc, drop_at, drop-drop, drop-take, take_all, take_at, take-take}
+use Rattle.std.proofs.lemmas.Option.{slice_get-map}
+use Rattle.std.proofs.lemmas.Bool.{cases_Bool}
 use Rattle.octets.specs.Numbers.{big_endian, number_at, spelled}
 use Rattle.octets.specs.Overwriting.{overwritten}
 use Rattle.octets.proofs.Numbers.{length-big_endian, spelled_whole}
 use Rattle.octets.proofs.Overwrites.{overwritten_two}
-use Rattle.octets.proofs.Places.{number_in_part}
-use Rattle.keeps.specs.Groups.{Pair}
-use Rattle.ledgers.specs.Ledgers.{InSlot, line, line_of, pair_on, pairs_of, rows}
+use Rattle.ledgers.specs.Ledgers.{line, line_of, pair_on, pairs_of, rows}
 
-module _ (at : ℕ) (m : List ℕ) (j start : ℕ) (e : start ≡ at + j * 14) where
-  -- A number on a line is one in the memory.
-  pub number_behind : (k n : ℕ) → k + n ≤ 14 → number_at m (start + k) n ≡ number_at (line at m j) k n
-  number_behind k n h = ap (λ i. number_at m (i + k) n) e ∙ sym (number_in_part 14 (at + j * 14) k n m h)
+-- Whether a line is the group's.
+abbrev pub own : (g : ℕ) → List ℕ → Bool
+own g line = eqb (number_at line 0 2) g
 
-  pub number_first : number_at m start 2 ≡ number_at (line at m j) 0 2
-  number_first = ap (λ i. number_at m i 2) (let z : start ≡ start + 0 = omega arith in z) ∙ number_behind 0 2 (omega arith)
+-- The pairs of a group are those on its lines.
+pub pairs_filtered : (g : ℕ) (lines : List (List ℕ)) → pairs_of g lines ≡ map pair_on (filter (own g) lines)
+pairs_filtered g [] = refl
+pairs_filtered g (line ∷ lines) =
+    let e = pairs_filtered g lines in
+    elim (cases_Bool (own g line)) [ inl t ↦ simp t (ap (λ ps. pair_on line ∷ ps) e) | inr f ↦ simp f e ]
 
-module _ (at : ℕ) (m : List ℕ) (n : ℕ) where
-  length-rows : length (rows at m n) ≡ n
-  unfolding rows
-  length-rows = length-map-range_with_len (line at m) 0 n
+option_map-twice : {X Y Z : Type 0} (h : Y → Z) (k : X → Y) (o : Option X) → option_map (λ x. h (k x)) o ≡ option_map h (option_map k o)
+option_map-twice h k None = refl
+option_map-twice h k (Some x) = refl
 
-  get_d_rows : (j : ℕ) (d : List ℕ) → j < n → get_or (rows at m n) j d ≡ line at m j
-  unfolding rows
-  get_d_rows j d h = get_or-map-range_with_len (line at m) 0 n j j d h (omega arith)
+-- The pair of a line found, by its place among the group's.
+pub pair_at : (g : ℕ) (lines : List (List ℕ)) (found : Option (Bor (List ℕ))) (slot : ℕ) → option_map (λ l. l.now) found ≡ slice_get (filter (own g) lines) slot → option_map (λ l. pair_on l.now) found ≡ slice_get (pairs_of g lines) slot
+pair_at g lines found slot e =
+    option_map-twice pair_on (λ (l : Bor (List ℕ)). l.now) found
+    ∙ ap (option_map pair_on) e
+    ∙ sym (slice_get-map pair_on (filter (own g) lines) slot)
+    ∙ ap (λ ps. slice_get ps slot) (sym (pairs_filtered g lines))
 
-  -- What is left of the lines, one on.
-  rows_step : (j : ℕ) → j < n → drop j (rows at m n) ≡ line at m j ∷ drop (j + 1) (rows at m n)
-  rows_step j h = drop_more (rows at m n) j [] (omega (arith, length-rows)) ∙ ap (λ l. l ∷ drop (j + 1) (rows at m n)) (get_d_rows j [] h)
+-- Parts of one width, cut from bytes one behind the other.
+length_chunks : (wide n : ℕ) (xs : List ℕ) → length (first_chunks wide n xs) ≡ n
+length_chunks wide zero xs = refl
+length_chunks wide (suc n) xs = omega (arith, length_chunks wide n (drop wide xs))
 
-  pub rows_none : (j : ℕ) → n ≤ j → drop j (rows at m n) ≡ []
-  rows_none j h = drop_all j (rows at m n) (omega (arith, length-rows))
+chunk_at : (wide n : ℕ) (xs : List ℕ) (j : ℕ) → j < n → get_or (first_chunks wide n xs) j [] ≡ take wide (drop (j * wide) xs)
+chunk_at wide zero xs j h = absurd (omega arith)
+chunk_at wide (suc n) xs zero h = ap (λ k. take wide (drop k xs)) (sym (zero-mul wide))
+chunk_at wide (suc n) xs (suc j) h =
+    let next : wide + j * wide ≡ suc j * wide = sym (suc-mul j wide ∙ omega arith) in
+    chunk_at wide n (drop wide xs) j (omega arith) ∙ ap (take wide) (drop-drop (j * wide) wide xs) ∙ ap (λ k. take wide (drop k xs)) next
 
-  pub pairs_own : (g j : ℕ) → j < n → number_at (line at m j) 0 2 ≡ g → pairs_of g (drop j (rows at m n)) ≡ pair_on (line at m j) ∷ pairs_of g (drop (j + 1) (rows at m n))
-  pairs_own g j h own = ap (pairs_of g) (rows_step j h) ∙ cond-true _ _ _ (eq-eqb (number_at (line at m j) 0 2) g own)
-
-  pub pairs_other : (g j : ℕ) → j < n → (number_at (line at m j) 0 2 ≡ g → ⊥) → pairs_of g (drop j (rows at m n)) ≡ pairs_of g (drop (j + 1) (rows at m n))
-  pairs_other g j h other = ap (pairs_of g) (rows_step j h) ∙ cond-false _ _ _ (ne_eqb (number_at (line at m j) 0 2) g other)
+pub chunked : (at : ℕ) (m : List ℕ) (n : ℕ) (xs : List ℕ) → xs ≡ take (n * 14) (drop at m) → first_chunks 14 n xs ≡ rows at m n
+unfolding rows
+chunked at m n xs e =
+    fill_by_all (line at m) (first_chunks 14 n xs) n [] (length_chunks 14 n xs)
+    (λ j l.
+    let rest : n * 14 ≡ j * 14 + (n * 14 - j * 14) = omega arith in
+    chunk_at 14 n xs j l
+    ∙ ap (λ ys. take 14 (drop (j * 14) ys)) (e ∙ ap (λ k. take k (drop at m)) rest)
+    ∙ ap (take 14) (drop-take (j * 14) (n * 14 - j * 14) (drop at m))
+    ∙ take-take 14 (n * 14 - j * 14) (drop (j * 14) (drop at m)) (omega arith)
+    ∙ ap (take 14) (drop-drop (j * 14) at m))
 
 -- Lines that agree.
 pub rows_same : (f h : ℕ → List ℕ) (n : ℕ) → ((j : ℕ) → j < n → f j ≡ h j) → map f (range_with_len 0 n) ≡ map h (range_with_len 0 n)
 rows_same f h n e =
     fill_by_all h (map f (range_with_len 0 n)) n [] (length-map-range_with_len f 0 n) (λ k l. get_or-map-range_with_len f 0 n k k [] l (omega arith) ∙ e k l)
-
--- The pair in a slot is the first of those from there on.
-pub slot_first : (pairs : List Pair) (slot : ℕ) (p : Pair) (rest : List Pair) → drop slot pairs ≡ p ∷ rest → InSlot pairs slot p
-slot_first pairs slot p rest e =
-    record {
-      given = omega (arith, length-drop slot pairs, ap length e);
-      holds = λ none. let z : slot ≡ slot + 0 = omega arith in ap (λ k. get_or pairs k none) z ∙ sym (get_or-drop slot pairs 0 none) ∙ ap (λ (ps : List Pair). get_or ps 0 none) e;
-    }
-
-pub slot_none : (pairs : List Pair) (slot : ℕ) → drop slot pairs ≡ [] → length pairs ≤ slot
-slot_none pairs slot e = omega (arith, length-drop slot pairs, ap length e)
 
 module _ (g c l : ℕ) where
   pub length_line : length (line_of g c l) ≡ 14

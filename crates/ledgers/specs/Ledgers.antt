@@ -1,6 +1,6 @@
 -- A ledger: a state byte for each group, 0 for a live one, then a count of 4 bytes, then lines of 14, each the 2-byte number of a
 -- group, the 4-byte cell and the 8-byte locator of a pair, in the order of the puts.
-use Rattle.std.specs.Prelude.{◌≡◌, ℕ, ◌+◌, ◌*◌, ◌<◌, ◌≤◌, min, Bool, cond, ◌&&◌, List, [], ◌∷◌, ◌++◌, map, length, get_or, take, drop, replicate, is_ok, Ok, Err, Result, ◌==◌, nat_le, nat_lt, slice_index, slice_index_or, slice_set}
+use Rattle.std.specs.Prelude.{ℕ, ◌+◌, ◌*◌, ◌≤◌, min, Bool, cond, ◌&&◌, List, [], ◌∷◌, ◌++◌, map, length, take, drop, replicate, is_ok, Ok, Err, Result, ◌==◌, nat_le, nat_lt, slice_index, slice_index_or, slice_set}
 use Rattle.std.specs.List.{range_with_len, flat_map}
 use Rattle.octets.specs.Numbers.{big_endian, number_at}
 use Rattle.octets.specs.Overwriting.{overwritten}
@@ -68,21 +68,11 @@ ledger_room groups lines memory i = ledger_live groups lines memory i && nat_lt 
 
 -- What numbers and memory that are not refused are like.
 pub record Fitting (groups lines long : ℕ) : Type 0 where
+  pub some : 1 ≤ groups
   pub few : groups ≤ most_groups
+  pub any : 1 ≤ lines
   pub short : lines ≤ most_lines
   pub enough : ledger_size groups lines ≤ long
-
--- Group g is there and live.
-pub record LiveIn (groups lines : ℕ) (memory : List ℕ) (g : ℕ) : Type 0 where
-  pub there : g < ledger_groups groups lines memory
-  pub low : g < groups
-  pub fits : Fitting groups lines (length memory)
-  pub state : get_or memory g 0 ≡ 0
-
--- A slot was given out, and this pair is in it.
-pub record InSlot (pairs : List Pair) (slot : ℕ) (pair : Pair) : Type 0 where
-  pub given : slot < length pairs
-  pub holds : (none : Pair) → slice_index_or pairs slot none ≡ pair
 
 -- The bytes of a line.
 abbrev pub line_of : (group cell locator : ℕ) → List ℕ

@@ -1,7 +1,6 @@
 // The ledger: a keep in memory that the caller lends, with a line for each put.
 #![tactic(auto)]
 
-mod calls;
 mod fit;
 pub mod ledger;
 mod lines;

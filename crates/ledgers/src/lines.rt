@@ -1,73 +1,73 @@
 // The lines of a ledger.
-ghost use Rattle.std.specs.Prelude.{◌≡◌, ◌+◌, ◌*◌, ◌≤◌, length, MatchOption};
+ghost use Rattle.std.specs.Prelude.{◌≡◌, ◌+◌, ◌*◌, ◌≤◌, length, slice_get};
+ghost use Rattle.std.specs.Option.{option_map};
 ghost use Rattle.octets.specs.Overwriting.{overwritten};
-ghost use Rattle.ledgers.specs.Ledgers.{InSlot, line, line_of, lines_struck, pair_on, pairs_of, rows, used};
+ghost use Rattle.keeps.specs.Groups.{in_slot};
+ghost use Rattle.ledgers.specs.Ledgers.{line_of, lines_struck, pair_on, pairs_of};
 
-use octets::memory::{u16_at, u32_at, write_number_at};
+use keeps::fault::KeepFault;
+use octets::memory::InMemory;
 
-// Where line j begins.
-pub(crate) fn line_start(groups: u32, j: u32) -> usize
-    ensures { result ≡ groups + 4 + j * 14 }
+// The bytes of a line.
+pub(crate) const LINE: usize = 14;
+
+// How many of the lines are the group's.
+pub(crate) fn count_lines(lines: &[[u8; LINE]], group: u16) -> usize
+    ensures value { result ≡ length (pairs_of group lines.now) }
+    ensures few { result ≤ length lines.now }
 {
-    groups as usize + 4 + j as usize * 14
+    lines
+        .iter()
+        .filter(|line| u16::read_at(*line, 0) == group)
+        .count()
 }
 
-// How many lines are used.
-pub(crate) fn used_in(memory: &[u8], groups: u32, lines: u32) -> u32
-    ensures { result ≡ used groups lines memory.now }
+// The group's line at a slot, looked for from the first line on. An index could not be trusted: memory that is opened may
+// hold any bytes.
+fn find_line(lines: &[[u8; LINE]], group: u16, slot: u32) -> Option<&[u8; LINE]>
+    ensures { option_map (λ line. pair_on line.now) result ≡ slice_get (pairs_of group lines.now) slot }
 {
-    u32_at(memory, groups as usize).min(lines)
+    lines
+        .iter()
+        .filter(|line| u16::read_at(*line, 0) == group)
+        .nth(slot as usize)
 }
 
-// How many of the first n lines are the group's.
-pub(crate) fn count_lines(memory: &[u8], groups: u32, n: u32, group: u16) -> u32
-    ensures value { result ≡ length (pairs_of group (rows (groups + 4) memory.now n)) }
-    ensures few { result ≤ n }
+// The locator in a slot of the group's, if that was put for the cell.
+#[tactic(auto, using(keeps::proofs::Slots::slot_none))]
+pub(crate) fn locator_in(
+    lines: &[[u8; LINE]],
+    group: u16,
+    slot: u32,
+    cell: u32,
+) -> Result<u64, KeepFault>
+    ensures { result ≡ in_slot (pairs_of group lines.now) slot cell }
 {
-    let mut count = 0;
-    for j in 0..n {
-        if u16_at(memory, line_start(groups, j)) == group {
-            count += 1;
-        }
+    match find_line(lines, group, slot) {
+        Some(line) if u32::read_at(line, 2) == cell => Ok(u64::read_at(line, 6)),
+        _ => Err(KeepFault::Stranger(cell)),
     }
-    count
 }
 
-// Which of the first n lines is the group's at a slot, looked for from the first line on. An index could not be trusted:
-// memory that is opened may hold any bytes.
-pub(crate) fn find_line(memory: &[u8], groups: u32, n: u32, group: u16, slot: u32) -> Option<u32>
-    ensures { MatchOption result (length (pairs_of group (rows (groups + 4) memory.now n)) ≤ slot) (λ j. InSlot (pairs_of group (rows (groups + 4) memory.now n)) slot (pair_on (line (groups + 4) memory.now j))) }
-{
-    let mut left = slot;
-    for j in 0..n {
-        if u16_at(memory, line_start(groups, j)) == group {
-            if left == 0 {
-                return Some(j);
-            }
-            left -= 1;
-        }
-    }
-    None
-}
-
-// Writes one line over 14 bytes.
+// Writes one line over its bytes.
 pub(crate) fn write_line(memory: &mut [u8], at: usize, group: u16, cell: u32, locator: u64)
     requires { at + 14 ≤ length memory.old }
     ensures { memory.new ≡ overwritten at (line_of group cell locator) memory.old }
 {
-    write_number_at(memory, at, 2, group as u64);
-    write_number_at(memory, at + 2, 4, cell as u64);
-    write_number_at(memory, at + 6, 8, locator);
+    group.write_at(memory, at);
+    cell.write_at(memory, at + 2);
+    locator.write_at(memory, at + 6);
 }
 
-// Zeroes cell and locator of those of the first n lines that are the group's.
-pub(crate) fn erase_lines(memory: &mut [u8], groups: u32, n: u32, group: u16)
-    requires { groups + 4 + n * 14 ≤ length memory.old }
-    ensures { memory.new ≡ lines_struck (groups + 4) n group memory.old }
+// Zeroes cell and locator of those of the n lines from a place on that are the group's.
+// (Places, and no lines lent by `chunks_exact_mut`: of what is written through those only the length is known.)
+pub(crate) fn erase_lines(memory: &mut [u8], first: usize, n: u32, group: u16)
+    requires { first + n * 14 ≤ length memory.old }
+    ensures { memory.new ≡ lines_struck first n group memory.old }
 {
-    for j in 0..n {
-        let at = line_start(groups, j);
-        if u16_at(memory, at) == group {
+    for j in 0..n as usize {
+        let at = first + j * LINE;
+        if u16::read_at(memory, at) == group {
             write_line(memory, at, group, 0, 0);
         }
     }

@@ -10,12 +10,14 @@ use crate::ledger::Ledger;
 use stores::fault::SetUpFault;
 
 // Zeroes the bytes of a ledger of so many groups and lines, and no others.
+// (Every make sets up so, by its own numbers and its own test: one generic function would take the test and the size as
+// closures and say no more.)
 pub fn clear(memory: &mut [u8], groups: u32, lines: u32) -> Result<(), SetUpFault>
     ensures value { result ≡ ledger_fit groups lines (length memory.old) }
     ensures after { memory.new ≡ (if is_ok result then zeroed (ledger_size groups lines) memory.old else memory.old) }
 {
-    fit(groups, lines, memory.len())?;
-    memory[0..groups as usize + 4 + lines as usize * 14].fill(0);
+    let size = fit(groups, lines, memory.len())?;
+    memory[..size].fill(0);
     Ok(())
 }
 
@@ -25,27 +27,23 @@ impl<'a> Ledger<'a> {
         ensures made { MatchResult result (λ k. (ledger_fit groups lines (length memory.old) ≡ Ok tt) × (k.groups ≡ groups) × (k.lines ≡ lines) × (k.memory.now ≡ zeroed (ledger_size groups lines) memory.old)) (λ f. ledger_fit groups lines (length memory.old) ≡ Err f) }
         ensures blank { IfOk result (λ k. (take (ledger_size groups lines) k.memory.now ≡ drawn_ledger (groups ∷ (lines ∷ [])) [] none_gone) × ((i : ℕ) → i < groups → ledger_pairs groups lines k.memory.now i ≡ live [])) }
     {
-        match clear(memory, groups, lines) {
-            Ok(()) => Ok(Ledger {
-                memory,
-                groups,
-                lines,
-            }),
-            Err(fault) => Err(fault),
-        }
+        clear(memory, groups, lines)?;
+        Ok(Ledger {
+            memory,
+            groups,
+            lines,
+        })
     }
 
     // The ledger that is in memory, whatever that holds.
     pub fn open(memory: &'a mut [u8], groups: u32, lines: u32) -> Result<Ledger<'a>, SetUpFault>
         ensures { MatchResult result (λ k. (ledger_fit groups lines (length memory.old) ≡ Ok tt) × (k.groups ≡ groups) × (k.lines ≡ lines) × (k.memory.now ≡ memory.old)) (λ f. ledger_fit groups lines (length memory.old) ≡ Err f) }
     {
-        match fit(groups, lines, memory.len()) {
-            Ok(()) => Ok(Ledger {
-                memory,
-                groups,
-                lines,
-            }),
-            Err(fault) => Err(fault),
-        }
+        fit(groups, lines, memory.len())?;
+        Ok(Ledger {
+            memory,
+            groups,
+            lines,
+        })
     }
 }

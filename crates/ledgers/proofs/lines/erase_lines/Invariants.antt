@@ -1,7 +1,7 @@
 -- The lines so far are struck.
-use Rattle.std.proofs.Common.{◌≡◌, ◌+◌}
+use Rattle.std.proofs.Common.{◌≡◌}
 use Rattle.ledgers.specs.Ledgers.{lines_struck}
 use Rattle.ledgers.proofs.lines.erase_lines.Given as goal
 
 abbrev pub invariant-loop-j : goal.invariant-loop-j
-invariant-loop-j l = l.memory ≡ lines_struck (l.groups + 4) l.j l.group l.initial.memory
+invariant-loop-j l = l.memory ≡ lines_struck l.first l.j l.group l.initial.memory

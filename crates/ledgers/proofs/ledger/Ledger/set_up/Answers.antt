@@ -1,20 +1,15 @@
 -- Zeroes are a ledger with no put.
-use Rattle.std.proofs.Common.{◌≡◌, ℕ, List, length, take, is_ok, sym, refl, ap, ◌∙◌}
-use Rattle.octets.specs.Overwriting.{zeroed}
+use Rattle.std.proofs.Common.{List, length, take, is_ok, sym, ap, ◌∙◌}
 use Rattle.ledgers.specs.LedgerLaws.{fitting}
 use Rattle.ledgers.specs.Ledgers.{ledger_pairs, ledger_size}
 use Rattle.ledgers.proofs.Blank.{blank_drawn, blank_live}
 use Rattle.ledgers.proofs.ledger.Ledger.set_up.Goals as goal
 
-pub returns-in-Ok : goal.returns-in-Ok
-returns-in-Ok c =
+pub returns-clause-blank : goal.returns-clause-blank
+returns-clause-blank c =
     let groups = c.args.groups in
     let lines = c.args.lines in
     let m = c.args.memory.now in
-    let ok = sym c.in-Ok.ensures.value in
-    let enough = (fitting groups lines (length m) (ap is_ok ok)).enough in
-    let e : c.clear.new.memory ≡ zeroed (ledger_size groups lines) m = c.in-Ok.ensures.after in
-    record {
-      made = (ok, refl, refl, e);
-      blank = (ap (take (ledger_size groups lines)) e ∙ blank_drawn groups lines m, λ i l. ap (λ (xs : List ℕ). ledger_pairs groups lines xs i) e ∙ blank_live groups lines m ok enough i l);
-    }
+    let cleared = c.in_ok-clear.ensures.after in
+    let fits = fitting groups lines (length m) (ap is_ok (sym c.in_ok-clear.ensures.value)) in
+    (ap (take (ledger_size groups lines)) cleared ∙ blank_drawn groups lines m, λ i l. ap (λ (xs : List _). ledger_pairs groups lines xs i) cleared ∙ blank_live groups lines m fits i l)
