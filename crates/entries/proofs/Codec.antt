@@ -1,14 +1,14 @@
 -- Entries and their bytes determine each other.
-use Rattle.std.proofs.Common.{◌≡◌, ℕ, zero, suc, ◌+◌, ◌-◌, ◌/◌, ◌%◌, ◌^◌, ◌<◌, ◌≤◌, Bool, true, false, cond, ◌&&◌, eqb, List, [], ◌∷◌, ◌++◌, length, get_or, take, drop, IfSome, Some, None, Option, sym, refl, ap, ◌∙◌, inl, inr, arith, length-append, length-drop, length-take, drop-cons}
+use Rattle.std.proofs.Common.{◌≡◌, ℕ, ◌+◌, ◌-◌, ◌^◌, ◌<◌, ◌≤◌, Bool, true, false, cond, ◌&&◌, eqb, List, ◌∷◌, ◌++◌, length, get_or, take, drop, IfSome, Some, None, Option, sym, refl, ap, ◌∙◌, inl, inr, arith, length-append, length-drop, length-take, drop-cons}
 use Rattle.std.specs.Int.Digits.{AllBelowBase}
 use Rattle.std.proofs.lemmas.Int.Digits.{number_lt}
 use Rattle.std.proofs.lemmas.List.{drop_at, drop-drop, take_all, take_at, take-append-drop}
 use Rattle.std.proofs.lemmas.Bool.{and_from, and_left, and_parts, and_right, cases_Bool, cond-false, cond-true, eq-eqb, eqb-true, ne_eqb}
 use Rattle.octets.specs.Numbers.{big_endian, number_at, spelled}
-use Rattle.octets.proofs.Numbers.{length-big_endian, same_from_spelled, spelled_whole, under_big_endian}
+use Rattle.octets.proofs.Numbers.{length-big_endian, same_from_spelled, spelled_whole, under_big_endian, under_drop, under_take}
 use Rattle.stores.specs.Cells.{cell_length}
 use Rattle.entries.specs.declared.entry.Entry.{Entry}
-use Rattle.entries.specs.Entries.{Fits, entry_bytes, entry_in, four_bytes, is_entry, is_marked, keyed_entry, mark, one_by_one, twelve}
+use Rattle.entries.specs.Entries.{Fits, entry_bytes, entry_in, is_entry, is_marked, keyed_entry, mark}
 
 -- Behind the key.
 past_key : (key rest : List ℕ) → length key ≡ 12 → (k : ℕ) → drop (12 + k) (key ++ rest) ≡ drop k rest
@@ -45,27 +45,6 @@ module _ (kind : ℕ) (admissible : List ℕ → Bool) (e : Entry) (fits : Fits 
       let filing : number_at (entry_bytes kind e) 20 4 ≡ e.filing = ap (λ l. spelled (take 4 l)) (past_key e.key behind fits.key 6) ∙ spelled_whole 4 e.filing fits.filing in
       λ i. cond (test_back i) (Some (record { key = key_back i; group = group i; slot = slot i; filing = filing i })) None
 
--- The bytes one by one.
-items : ℕ → ℕ → List ℕ → List ℕ
-items zero i xs = []
-items (suc n) i xs = get_or xs i 0 ∷ items n (suc i) xs
-
-items_are : (n i : ℕ) (xs : List ℕ) → i + n ≤ length xs → items n i xs ≡ take n (drop i xs)
-unfolding items
-items_are zero i xs h = refl
-items_are (suc n) i xs h = ap (λ l. get_or xs i 0 ∷ l) (items_are n (suc i) xs (omega arith)) ∙ ap (take (suc n)) (sym (drop-cons xs i 0 (omega arith)))
-
-four_same : (n : ℕ) → four_bytes n ≡ big_endian 4 n
-four_same n = let last : n % 256 ≡ n / 256 ^ 0 % 256 = omega arith in λ i. n / 16777216 % 256 ∷ (n / 65536 % 256 ∷ (n / 256 % 256 ∷ (last i ∷ [])))
-
-pub one_by_one_same : (kind : ℕ) (e : Entry) → Fits e → one_by_one kind e.key e.group e.slot e.filing ≡ entry_bytes kind e
-unfolding entry_bytes items
-one_by_one_same kind e fits =
-    let key : twelve e.key ≡ e.key = items_are 12 0 e.key (omega (arith, fits.key)) ∙ take_all 12 e.key (omega (arith, fits.key)) in
-    let high : e.group / 256 ≡ e.group / 256 % 256 = omega (arith, fits.group) in
-    let low : e.group % 256 ≡ e.group / 256 ^ 0 % 256 = omega arith in
-    λ i. mark ∷ (kind ∷ (key i ++ (high i ∷ (low i ∷ (four_same e.slot i ++ four_same e.filing i)))))
-
 module _ (kind : ℕ) (admissible : List ℕ → Bool) (xs : List ℕ) where
   pub other_length : (length xs ≡ cell_length → ⊥) → None ≡ entry_in kind admissible xs
   unfolding entry_in
@@ -90,20 +69,6 @@ module _ (kind : ℕ) (admissible : List ℕ → Bool) (xs : List ℕ) where
         λ i. cond (sym test_same i) (Some (record { key = take 12 (drop 2 xs); group = at 12 2 i; slot = at 14 4 i; filing = at 18 4 i })) None)
 
 -- Bytes that are read as an entry are that entry's.
-under_take : (n : ℕ) (xs : List ℕ) → AllBelowBase 256 xs → AllBelowBase 256 (take n xs)
-under_take zero xs h = tt
-under_take (suc n) [] h = tt
-under_take (suc n) (x ∷ xs) h = (h.0, under_take n xs h.1)
-
-under_drop : (n : ℕ) (xs : List ℕ) → AllBelowBase 256 xs → AllBelowBase 256 (drop n xs)
-under_drop zero xs h = h
-under_drop (suc n) [] h = tt
-under_drop (suc n) (x ∷ xs) h = under_drop n xs h.1
-
-pub under_each : (xs : List ℕ) → ((i : ℕ) → get_or xs i 0 < 256) → AllBelowBase 256 xs
-under_each [] h = tt
-under_each (x ∷ xs) h = (h 0, under_each xs (λ i. h (suc i)))
-
 spelled_back : (n : ℕ) (xs : List ℕ) → length xs ≡ n → AllBelowBase 256 xs → big_endian n (spelled xs) ≡ xs
 spelled_back n xs long h =
     let low : spelled xs < 256 ^ n = omega (arith, number_lt 256 xs h, ap (λ (k : ℕ). 256 ^ k) long) in

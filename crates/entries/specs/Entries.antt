@@ -1,6 +1,6 @@
 -- An entry in the 24 bytes of its cell, and which bytes are one. The kind is the number of the archive's kind of key, and
 -- admissible says which bytes are those of a key.
-use Rattle.std.specs.Prelude.{◌≡◌, ℕ, ◌/◌, ◌%◌, ◌^◌, ◌<◌, Bool, cond, ◌&&◌, List, [], ◌∷◌, ◌++◌, length, take, drop, Some, None, Option, ◌==◌, slice_index}
+use Rattle.std.specs.Prelude.{◌≡◌, ℕ, ◌^◌, ◌<◌, Bool, cond, ◌&&◌, List, ◌∷◌, ◌++◌, length, take, drop, Some, None, Option, ◌==◌, slice_index}
 use Rattle.octets.specs.Numbers.{big_endian, number_at}
 use Rattle.stores.specs.Cells.{cell_length}
 use Rattle.entries.specs.declared.entry.Entry.{Entry}
@@ -37,14 +37,3 @@ entry_in kind admissible bytes =
 abbrev pub keyed_entry : (admissible : List ℕ → Bool) → List ℕ → Option Entry
 keyed_entry admissible rest =
     cond (admissible (take 12 rest)) (Some (record { key = take 12 rest; group = number_at rest 12 2; slot = number_at rest 14 4; filing = number_at rest 18 4 })) None
-
--- The bytes of an entry, one by one.
-abbrev pub twelve : List ℕ → List ℕ
-twelve key =
-    slice_index key 0 ∷ (slice_index key 1 ∷ (slice_index key 2 ∷ (slice_index key 3 ∷ (slice_index key 4 ∷ (slice_index key 5 ∷ (slice_index key 6 ∷ (slice_index key 7 ∷ (slice_index key 8 ∷ (slice_index key 9 ∷ (slice_index key 10 ∷ (slice_index key 11 ∷ [])))))))))))
-
-abbrev pub four_bytes : ℕ → List ℕ
-four_bytes n = n / 16777216 % 256 ∷ (n / 65536 % 256 ∷ (n / 256 % 256 ∷ (n % 256 ∷ [])))
-
-abbrev pub one_by_one : (kind : ℕ) (key : List ℕ) (group slot filing : ℕ) → List ℕ
-one_by_one kind key group slot filing = mark ∷ (kind ∷ (twelve key ++ (group / 256 ∷ (group % 256 ∷ (four_bytes slot ++ four_bytes filing)))))

@@ -1,10 +1,10 @@
 // Entries and the bytes of their cells.
 ghost use Rattle.std.specs.Prelude.{◌≡◌, length, IfSome, if◌then◌else◌, Some, None};
-ghost use Rattle.entries.specs.Entries.{Fits, entry_bytes, entry_in, is_marked, keyed_entry, one_by_one};
+ghost use Rattle.entries.specs.Entries.{Fits, entry_bytes, entry_in, is_marked, keyed_entry};
 
 use crate::entry::Entry;
 use keys::kind::Key;
-use octets::memory::{u16_at, u32_at};
+use octets::memory::InMemory;
 use stores::store::CELL_LENGTH;
 
 // The first byte of every entry.
@@ -29,9 +29,9 @@ fn keyed_entry<K: Key>(rest: &[u8]) -> Option<Entry>
     }
     Some(Entry {
         key,
-        group: u16_at(rest, 12),
-        slot: u32_at(rest, 14),
-        filing: u32_at(rest, 18),
+        group: u16::read_at(rest, 12),
+        slot: u32::read_at(rest, 14),
+        filing: u32::read_at(rest, 18),
     })
 }
 
@@ -52,26 +52,25 @@ pub fn entry_of<K: Key>(cell: &[u8]) -> Option<Entry>
     keyed_entry::<K>(rest)
 }
 
-// The bytes of an entry, one by one.
-fn listed(kind: u8, key: &[u8; 12], group: u16, slot: u32, filing: u32) -> [u8; 24]
-    ensures value { result ≡ one_by_one kind key.now group slot filing }
-    ensures fits { Fits (record { key = key.now; group = group; slot = slot; filing = filing }) }
+// The bytes of an entry with this kind of key.
+fn spelled_out(kind: u8, entry: &Entry) -> [u8; CELL_LENGTH]
+    ensures value { result ≡ entry_bytes kind entry.now }
+    ensures fits { Fits entry.now }
 {
-    let [g1, g0] = group.to_be_bytes();
-    let [s3, s2, s1, s0] = slot.to_be_bytes();
-    let [n3, n2, n1, n0] = filing.to_be_bytes();
-    let k = key;
-    [
-        MARK, kind, k[0], k[1], k[2], k[3], k[4], k[5], k[6], k[7], k[8], k[9], k[10], k[11], g1,
-        g0, s3, s2, s1, s0, n3, n2, n1, n0,
-    ]
+    let mut cell = [0; CELL_LENGTH];
+    cell[0] = MARK;
+    cell[1] = kind;
+    cell[2..14].copy_from_slice(&entry.key);
+    entry.group.write_at(&mut cell, 14);
+    entry.slot.write_at(&mut cell, 16);
+    entry.filing.write_at(&mut cell, 20);
+    cell
 }
 
 // The cell of an entry, which reads as that entry exactly where its key is admissible.
-pub fn cell_of<K: Key>(entry: &Entry) -> [u8; 24]
+pub fn cell_of<K: Key>(entry: &Entry) -> [u8; CELL_LENGTH]
     ensures value { result ≡ entry_bytes K.Key.mark entry.now }
     ensures back { entry_in K.Key.mark K.Key.admissible result ≡ (if K.Key.admissible entry.now.key then Some entry.now else None) }
 {
-    let key = entry.key;
-    listed(K::kind(), &key, entry.group, entry.slot, entry.filing)
+    spelled_out(K::kind(), entry)
 }

@@ -22,7 +22,7 @@ pub enum Stop {
     },
 }
 
-// What a search answers.
+// What a search answers. Cell and probes stand in each case by name, as the rules tell them: a pair of them would be one name more.
 #[derive(Clone, Copy, PartialEq, Eq, Debug)]
 pub enum Verdict {
     // No entry of this key, and its next filing would stand at this cell.

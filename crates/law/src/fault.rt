@@ -4,6 +4,7 @@ ghost use Rattle.law.specs.Refusal.{archive_detail, archive_number};
 ghost use Rattle.law.specs.declared.fault.ArchiveFault.TheVariants.{Store as InStore, Keep as InKeep};
 
 use keeps::fault::KeepFault;
+use refusals::Refusal;
 use stores::fault::StoreFault;
 
 #[derive(Clone, Copy, PartialEq, Eq, Debug)]
@@ -20,11 +21,12 @@ pub enum ArchiveFault {
     Keep(KeepFault),
 }
 
-impl ArchiveFault {
-    // The refusal's number.
-    pub fn number(&self) -> u32
-        ensures { result ≡ archive_number self.now }
-    {
+impl Refusal for ArchiveFault {
+    ghost number_of = { archive_number };
+
+    ghost detail_of = { archive_detail };
+
+    fn number(&self) -> u32 {
         match self {
             ArchiveFault::Key => 4,
             ArchiveFault::Twice(_) => 7,
@@ -34,15 +36,12 @@ impl ArchiveFault {
         }
     }
 
-    // The refusal's detail.
-    pub fn detail(&self) -> Option<u64>
-        ensures { result ≡ archive_detail self.now }
-    {
+    fn detail(&self) -> Option<u64> {
         match self {
             ArchiveFault::Key | ArchiveFault::FullPath => None,
             ArchiveFault::Twice(cell) => Some(u64::from(*cell)),
             ArchiveFault::Store(fault) => fault.detail(),
-            ArchiveFault::Keep(fault) => Some(fault.detail()),
+            ArchiveFault::Keep(fault) => fault.detail(),
         }
     }
 }

@@ -6,7 +6,7 @@ use entries::cell::entry_of;
 use entries::entry::Entry;
 use keys::kind::Key;
 use octets::compare::same_bytes;
-use stores::store::{CELL_LENGTH, Store};
+use stores::store::Store;
 
 #[derive(Clone, Copy)]
 pub enum Seen {
@@ -22,19 +22,17 @@ pub enum Seen {
 pub fn look<S: Store, K: Key>(store: &S, cell: u32, key: &[u8; 12]) -> Seen
     ensures { result ≡ seen_in K.Key.mark K.Key.admissible key.now (S.Store.cell store.now cell) }
 {
-    let mut held = [0; CELL_LENGTH];
-    let written = store.read(cell, &mut held).unwrap_or(false);
-    if !written {
-        return Seen::Blank;
-    }
-    match entry_of::<K>(&held) {
-        Some(entry) => {
-            if same_bytes(&entry.key, key) {
-                Seen::Own(entry)
-            } else {
-                Seen::Other
+    match store.held(cell) {
+        Ok(Some(bytes)) => match entry_of::<K>(&bytes) {
+            Some(entry) => {
+                if same_bytes(&entry.key, key) {
+                    Seen::Own(entry)
+                } else {
+                    Seen::Other
+                }
             }
-        }
-        None => Seen::Other,
+            None => Seen::Other,
+        },
+        Ok(None) | Err(_) => Seen::Blank,
     }
 }

@@ -13,14 +13,11 @@ use stores::store::Store;
 pub fn walk<S: Store, P: PathRule, K: Key>(store: &S, rule: &P, key: &[u8; 12]) -> Stop
     ensures { (groups : ℕ) → result ≡ stop (settings_with K.Key P.PathRule rule.now groups) (S.Store.cell store.now) key.now }
 {
-    let (levels, width) = (rule.levels(), rule.tries());
+    let width = rule.tries();
     let mut at = rule.start(key);
     let mut probes = 0;
     'walk: {
-        for level in 0..levels {
-            let Some(tries) = rule.descend(&mut at) else {
-                unreachable()
-            };
+        while let Some(tries) = rule.descend(&mut at) {
             for j in 0..width {
                 let cell = tries.cell(j);
                 probes += 1;

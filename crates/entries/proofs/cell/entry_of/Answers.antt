@@ -1,15 +1,14 @@
 -- Another length, another mark or kind, or what the key decides.
 use Rattle.std.proofs.Common.{◌-◌, length, take, drop, sym, refl, ◌∙◌, arith}
-use Rattle.entries.proofs.Codec.{found_back, keyed_same, other_length, under_each, unmarked}
+use Rattle.octets.proofs.Numbers.{under_each}
+use Rattle.entries.proofs.Codec.{found_back, keyed_same, other_length, unmarked}
 use Rattle.entries.proofs.cell.entry_of.Goals as goal
 
-pub returns-then-cell-ne-CELL_LENGTH : goal.returns-then-cell-ne-CELL_LENGTH
-returns-then-cell-ne-CELL_LENGTH g c =
-    record { value = other_length g.K.Key.mark g.K.Key.admissible c.args.cell.now c.if-cell-ne-CELL_LENGTH.true; back = tt }
+pub returns-then-cell-ne-CELL_LENGTH-clause-value : goal.returns-then-cell-ne-CELL_LENGTH-clause-value
+returns-then-cell-ne-CELL_LENGTH-clause-value g c = other_length g.K.Key.mark g.K.Key.admissible c.args.cell.now c.if-cell-ne-CELL_LENGTH.true
 
-pub returns-then-not-is_marked : goal.returns-then-not-is_marked
-returns-then-not-is_marked g c =
-    record { value = unmarked g.K.Key.mark g.K.Key.admissible c.args.cell.now (sym c.is_marked.ensures ∙ c.if-not-is_marked.true); back = tt }
+pub returns-then-not-is_marked-clause-value : goal.returns-then-not-is_marked-clause-value
+returns-then-not-is_marked-clause-value g c = unmarked g.K.Key.mark g.K.Key.admissible c.args.cell.now (sym c.is_marked.ensures ∙ c.if-not-is_marked.true)
 
 pub returns : goal.returns
 returns g c =
