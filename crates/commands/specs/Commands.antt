@@ -1,12 +1,11 @@
--- What a line asks of a store. As in the reader, n is the number of the last field that was read, and ts are the fields left.
-use Rattle.std.specs.Prelude.{ℕ, cond, List, [], ◌∷◌, Some, None, Ok, Err, vec_items, codes, Option, Result, nat_le}
+-- What a line asks of a store.
+use Rattle.std.specs.Prelude.{ℕ, cond, List, Some, None, Ok, Err, vec_items, codes, Option, Result}
 use Rattle.std.specs.Option.{ok_or}
 use Rattle.std.specs.Str.{bytes_eq}
 use Rattle.hex_digits.specs.Hex.{bytes_of}
 use Rattle.lines.specs.declared.fault.LineFault.{LineFault}
-use Rattle.lines.specs.Fields.{wrong_field, text_field, line_end, then}
-use Rattle.lines.specs.Readers.{past_first, read_on}
-use Rattle.lines.specs.Text.{fields_of, number_of}
+use Rattle.lines.specs.Fields.{Reading, and_end, and_next, bounded_field, field_as, text_field, then}
+use Rattle.lines.specs.Readers.{all_of}
 use Rattle.commands.specs.declared.command.Command.{Command}
 use Rattle.commands.specs.declared.command.Command.TheVariants.{Write, Read, Take}
 use Rattle.commands.specs.declared.command.Verb.{Verb}
@@ -19,47 +18,34 @@ pub data Asked : Type 0 where
   reads : (cell : ℕ) → Asked
   takes : (cell : ℕ) → Asked
 
-abbrev pub in_32_bits : Option ℕ → Option ℕ
-in_32_bits None = None
-in_32_bits (Some n) = cond (nat_le n 4294967295) (Some n) None
-
-abbrev pub cell_field : (n : ℕ) (ts : List (List ℕ)) → Result ℕ LineFault
-cell_field n [] = Err (wrong_field n)
-cell_field n (t ∷ ts) = ok_or (in_32_bits (number_of t)) (wrong_field n)
+abbrev pub cell_field : Reading ℕ
+cell_field u = bounded_field 4294967295 u
 
 -- the bytes that a field's digits write
 abbrev pub digits_in : ℕ × List ℕ → Result (List ℕ) LineFault
 digits_in f = ok_or (bytes_of f.1) (record { field = f.0 })
 
-abbrev pub bytes_field : (n : ℕ) (ts : List (List ℕ)) → Result (List ℕ) LineFault
-bytes_field n ts = then (text_field n ts) digits_in
-
--- a cell, and then no more fields
-abbrev pub last_cell : (n : ℕ) (ts : List (List ℕ)) → Result ℕ LineFault
-last_cell n ts = then (cell_field n ts) (λ cell. then (line_end (read_on n ts) (past_first ts)) (λ _. Ok cell))
+abbrev pub bytes_field : Reading (List ℕ)
+bytes_field u = then (text_field u) digits_in
 
 -- bytes, and then no more fields
-abbrev pub last_bytes : (n : ℕ) (ts : List (List ℕ)) → Result (List ℕ) LineFault
-last_bytes n ts = then (bytes_field n ts) (λ bytes. then (line_end (read_on n ts) (past_first ts)) (λ _. Ok bytes))
+abbrev pub last_bytes : Reading (List ℕ)
+last_bytes u = and_next bytes_field and_end u
 
 abbrev pub verb_of : List ℕ → Option Verb
 verb_of t =
     cond (bytes_eq t (codes "write")) (Some ToWrite) (cond (bytes_eq t (codes "read")) (Some ToRead) (cond (bytes_eq t (codes "take")) (Some ToTake) None))
 
-abbrev pub verb_field : (n : ℕ) (ts : List (List ℕ)) → Result Verb LineFault
-verb_field n [] = Err (wrong_field n)
-verb_field n (t ∷ ts) = ok_or (verb_of t) (wrong_field n)
+abbrev pub verb_field : Reading Verb
+verb_field u = field_as verb_of u
 
-abbrev pub rest_of : Verb → (n : ℕ) (ts : List (List ℕ)) → Result Asked LineFault
-rest_of ToWrite n ts = then (cell_field n ts) (λ cell. then (last_bytes (read_on n ts) (past_first ts)) (λ bytes. Ok (writes cell bytes)))
-rest_of ToRead n ts = then (last_cell n ts) (λ cell. Ok (reads cell))
-rest_of ToTake n ts = then (last_cell n ts) (λ cell. Ok (takes cell))
-
-abbrev pub command_fields : List (List ℕ) → Result Asked LineFault
-command_fields ts = then (verb_field 0 ts) (λ verb. rest_of verb (read_on 0 ts) (past_first ts))
+abbrev pub rest_of : Verb → Reading Asked
+rest_of ToWrite u = and_next cell_field (λ cell v. then (last_bytes v) (λ bytes. Ok (writes cell bytes))) u
+rest_of ToRead u = and_next cell_field (λ cell. and_end (reads cell)) u
+rest_of ToTake u = and_next cell_field (λ cell. and_end (takes cell)) u
 
 abbrev pub command_of : List ℕ → Result Asked LineFault
-command_of line = command_fields (fields_of line)
+command_of line = and_next verb_field rest_of (all_of line)
 
 -- What the program holds, in these words.
 abbrev pub asked : Command → Asked

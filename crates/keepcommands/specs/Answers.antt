@@ -1,5 +1,6 @@
 -- What a keep answers to a command, and what its groups hold then.
-use Rattle.std.specs.Prelude.{ℕ, Bool, cond, Ok, Result}
+use Rattle.std.specs.Prelude.{ℕ, Bool, cond, List, ◌++◌, codes, Ok, Result}
+use Rattle.std.specs.Fmt.{decimal}
 use Rattle.keeps.specs.declared.fault.KeepFault.{KeepFault}
 use Rattle.keeps.specs.Groups.{Group, after_put, after_strike, check_answer, get_answer, put_answer, strike_answer}
 use Rattle.lines.specs.Fields.{then}
@@ -21,3 +22,12 @@ after_command r group (Get g slot cell) i = group i
 after_command r group (Strike g) i = after_strike r group g i
 after_command r group (Check g) i = group i
 after_command r group (Room g) i = group i
+
+-- What is printed of a reply: a word, and its numbers behind it.
+abbrev pub reply_text : KeepReply → List ℕ
+reply_text (HasPut g slot) = codes "put " ++ decimal g ++ codes " " ++ decimal slot
+reply_text (At locator) = codes "at " ++ decimal locator
+reply_text (Struck g pairs) = codes "struck " ++ decimal g ++ codes " " ++ decimal pairs
+reply_text (Live g) = codes "live " ++ decimal g
+reply_text (HasRoom g) = codes "room " ++ decimal g
+reply_text (Full g) = codes "none " ++ decimal g

@@ -1,10 +1,11 @@
 // What a keep answers to a command.
-ghost use Rattle.std.specs.Prelude.{◌≡◌, ℕ, false, is_ok};
-ghost use Rattle.keepcommands.specs.Answers.{after_command, answer_of};
+ghost use Rattle.std.specs.Prelude.{◌≡◌, ℕ, false, is_ok, Some};
+ghost use Rattle.keepcommands.specs.Answers.{after_command, answer_of, reply_text};
 
 use crate::command::KeepCommand;
 use keeps::fault::KeepFault;
 use keeps::keep::Keep;
+use std::fmt;
 
 #[derive(Clone, Copy, PartialEq, Eq, Debug)]
 pub enum KeepReply {
@@ -14,6 +15,22 @@ pub enum KeepReply {
     Live { group: u16 },
     Room { group: u16 },
     Full { group: u16 },
+}
+
+// The reply's word, and its numbers.
+impl fmt::Display for KeepReply {
+    ghost output = { λ reply. Some (reply_text reply) };
+
+    fn fmt<W: fmt::Write>(&self, f: &mut fmt::Formatter<W>) -> fmt::Result {
+        match *self {
+            KeepReply::Put { group, slot } => write!(f, "put {group} {slot}"),
+            KeepReply::At { locator } => write!(f, "at {locator}"),
+            KeepReply::Struck { group, pairs } => write!(f, "struck {group} {pairs}"),
+            KeepReply::Live { group } => write!(f, "live {group}"),
+            KeepReply::Room { group } => write!(f, "room {group}"),
+            KeepReply::Full { group } => write!(f, "none {group}"),
+        }
+    }
 }
 
 // Asks the keep; a command other than an accepted put or strike leaves every group as it was, and a refused one all of the keep.

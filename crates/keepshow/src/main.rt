@@ -1,186 +1,132 @@
 // Sets a keep up in a memory, or opens what the memory holds, and puts the commands of the other lines to it.
 #![tactic(auto)]
 
+ghost use Rattle.std.specs.Prelude.{◌≡◌, IfOk, false};
+
 mod start;
 
 use blocks::keep::Blocks;
 use commands::command::CommandFault;
-use console::{LONGEST_INPUT, LONGEST_LINE, print_bytes, print_refusal, read_batch};
-use keepcommands::answer::{KeepReply, answer};
+use console::{Session, numbered, print_answer, print_bytes, print_refusal, read_batch};
+use keepcommands::answer::answer;
 use keepcommands::command::KeepCommand;
 use keeps::keep::Keep;
 use ledgers::ledger::Ledger;
 use lines::fault::LineFault;
-use lines::input::Lines;
-use start::{Make, Start, Wanted, fill, read_memory, read_start};
-use std::alloc::{AllocError, Global};
+use lines::input::check_length;
+use start::{Beginning, Make, Wanted, begin, read_memory};
+use std::alloc::AllocError;
 use std::io;
 use std::io::{BufWriter, Write};
 use stores::fault::SetUpFault;
 
-fn print_line_fault(out: &mut impl Write, number: usize, fault: LineFault) -> io::Result<()> {
-    print_refusal(out, number, fault.number(), fault.detail())
+// What a line asks; 15 LINE where it is malformed or too long.
+fn read_command(line: &[u8]) -> Result<KeepCommand, LineFault> {
+    check_length(line)?;
+    KeepCommand::read(line)
 }
 
-fn print_reply(out: &mut impl Write, reply: KeepReply) -> io::Result<()> {
-    match reply {
-        KeepReply::Put { group, slot } => writeln!(out, "put {group} {slot}"),
-        KeepReply::At { locator } => writeln!(out, "at {locator}"),
-        KeepReply::Struck { group, pairs } => writeln!(out, "struck {group} {pairs}"),
-        KeepReply::Live { group } => writeln!(out, "live {group}"),
-        KeepReply::Room { group } => writeln!(out, "room {group}"),
-        KeepReply::Full { group } => writeln!(out, "none {group}"),
-    }
-}
-
-// One command.
-fn command(
-    out: &mut impl Write,
-    keep: &mut impl Keep,
-    number: usize,
-    line: &[u8],
-) -> io::Result<()> {
-    if line.len() > LONGEST_LINE {
-        return print_line_fault(out, number, LineFault { field: 0 });
-    }
-    match KeepCommand::read(line) {
-        Ok(command) => match answer(keep, command) {
-            Ok(reply) => print_reply(out, reply),
-            Err(fault) => print_refusal(out, number, fault.number(), Some(fault.detail())),
-        },
-        Err(fault) => print_line_fault(out, number, fault),
-    }
-}
-
-// All commands, put to a keep; the first stands behind line `last`.
-fn play(
-    out: &mut impl Write,
-    keep: &mut impl Keep,
-    lines: &mut Lines,
-    last: usize,
-) -> io::Result<()> {
+// All commands, put to a keep.
+fn play<W: Write, K: Keep>(session: &mut Session<W>, keep: &mut K) -> io::Result<()> {
     let groups = keep.group_count();
-    writeln!(out, "groups {groups}")?;
-    for number in last..LONGEST_INPUT {
-        let Some(line) = lines.next_line() else {
-            break;
-        };
-        command(out, keep, number + 1, line)?;
+    writeln!(session.out, "groups {groups}")?;
+    for (number, line) in &mut session.lines {
+        match read_command(line) {
+            Ok(command) => print_answer(session.out, number, answer(keep, command))?,
+            Err(fault) => print_refusal(session.out, number, &fault)?,
+        }
     }
     Ok(())
 }
 
-// Says whether there was a keep to play.
-fn told(out: &mut impl Write, number: usize, fault: SetUpFault) -> io::Result<bool> {
-    print_refusal(out, number, fault.number(), None)?;
-    Ok(false)
+// Plays a keep, if there is one; says whether there was, and reads no line if not.
+fn play_made<W: Write, K: Keep + Drop>(
+    session: &mut Session<W>,
+    number: usize,
+    made: Result<K, SetUpFault>,
+) -> io::Result<bool>
+    ensures { IfOk result (λ played. played ≡ false → session.new.lines ≡ session.old.lines) }
+{
+    match made {
+        Ok(mut keep) => {
+            play(session, &mut keep)?;
+            Ok(true)
+        }
+        Err(fault) => {
+            print_refusal(session.out, number, &fault)?;
+            Ok(false)
+        }
+    }
 }
 
-// Plays the keep that is wanted, if the memory and its numbers allow.
-fn on_keep(
-    out: &mut impl Write,
-    lines: &mut Lines,
+// Plays the keep that is wanted, if the memory and its numbers allow; says whether they did, and reads no line if not.
+fn on_keep<W: Write>(
+    session: &mut Session<W>,
     memory: &mut [u8],
     number: usize,
     wanted: Wanted,
-) -> io::Result<bool> {
+) -> io::Result<bool>
+    ensures { IfOk result (λ played. played ≡ false → session.new.lines ≡ session.old.lines) }
+{
     let Wanted {
-        set_up,
+        beginning,
         make,
         groups,
         size,
     } = wanted;
-    match make {
-        Make::Blocks => {
-            let blocks = if set_up {
-                Blocks::set_up(memory, groups, size)
-            } else {
-                Blocks::open(memory, groups, size)
-            };
-            match blocks {
-                Ok(mut keep) => play(out, &mut keep, lines, number)?,
-                Err(fault) => return told(out, number, fault),
-            }
+    match (make, beginning) {
+        (Make::Blocks, Beginning::SetUp) => {
+            play_made(session, number, Blocks::set_up(memory, groups, size))
         }
-        Make::Ledger => {
-            let ledger = if set_up {
-                Ledger::set_up(memory, groups, size)
-            } else {
-                Ledger::open(memory, groups, size)
-            };
-            match ledger {
-                Ok(mut keep) => play(out, &mut keep, lines, number)?,
-                Err(fault) => return told(out, number, fault),
-            }
+        (Make::Blocks, Beginning::Opened) => {
+            play_made(session, number, Blocks::open(memory, groups, size))
         }
-    }
-    Ok(true)
-}
-
-// One line before there is a keep; says whether there was one to play.
-fn before(
-    heap: Global,
-    out: &mut impl Write,
-    lines: &mut Lines,
-    memory: &mut [u8],
-    number: usize,
-    line: &[u8],
-) -> io::Result<bool> {
-    if line.len() > LONGEST_LINE {
-        print_line_fault(out, number, LineFault { field: 0 })?;
-        return Ok(false);
-    }
-    match read_start(heap, line) {
-        Ok(Start::Fill { at, bytes }) => {
-            if let Err(fault) = fill(memory, at, bytes.as_slice()) {
-                print_line_fault(out, number, fault)?;
-            }
-            Ok(false)
+        (Make::Ledger, Beginning::SetUp) => {
+            play_made(session, number, Ledger::set_up(memory, groups, size))
         }
-        Ok(Start::Keep(wanted)) => on_keep(out, lines, memory, number, wanted),
-        Err(CommandFault::Line(fault)) => {
-            print_line_fault(out, number, fault)?;
-            Ok(false)
+        (Make::Ledger, Beginning::Opened) => {
+            play_made(session, number, Ledger::open(memory, groups, size))
         }
-        Err(CommandFault::Memory) => Err(AllocError.into()),
     }
 }
 
-// All lines behind the first.
-fn on_memory(
-    heap: Global,
-    out: &mut impl Write,
-    lines: &mut Lines,
-    bytes: usize,
-) -> io::Result<()> {
-    let mut memory = vec![in heap; 0xA5; bytes]?;
-    for number in 2..=LONGEST_INPUT {
-        let Some(line) = lines.next_line() else {
-            break;
-        };
-        if before(heap, out, lines, memory.as_mut_slice(), number, line)? {
-            break;
+// All lines behind the first, over so many bytes of memory.
+fn on_memory<W: Write>(session: &mut Session<W>, bytes: usize) -> io::Result<()> {
+    let mut memory = vec![in session.heap; 0xA5; bytes]?;
+    while let Some((number, line)) = session.lines.next() {
+        match begin(session.heap, memory.as_mut_slice(), line) {
+            Ok(None) => {}
+            Ok(Some(wanted)) => {
+                if on_keep(session, memory.as_mut_slice(), number, wanted)? {
+                    break;
+                }
+            }
+            Err(CommandFault::Line(fault)) => print_refusal(session.out, number, &fault)?,
+            Err(CommandFault::Memory) => return Err(AllocError.into()),
         }
     }
-    print_bytes(out, memory.as_slice())
+    print_bytes(session.out, memory.as_slice())
 }
 
 fn main(rt: HostRuntime) -> io::Result<()> {
     let heap = rt.alloc();
     let mut out = BufWriter::new(heap, rt.stdout())?;
     let Some(batch) = read_batch(heap, rt.stdin())? else {
-        print_line_fault(&mut out, 0, LineFault { field: 0 })?;
+        print_refusal(&mut out, 0, &LineFault { field: 0 })?;
         return out.flush();
     };
-    let mut lines = Lines::new(batch.as_slice());
-    if let Some(line) = lines.next_line() {
-        if line.len() > LONGEST_LINE {
-            print_line_fault(&mut out, 1, LineFault { field: 0 })?;
-        } else {
-            match read_memory(line) {
-                Ok(bytes) => on_memory(heap, &mut out, &mut lines, bytes)?,
-                Err(fault) => print_line_fault(&mut out, 1, fault)?,
+    let mut lines = numbered(batch.as_slice());
+    if let Some((number, line)) = lines.next() {
+        match read_memory(line) {
+            Ok(bytes) => {
+                let mut session = Session {
+                    heap,
+                    out: &mut out,
+                    lines,
+                };
+                on_memory(&mut session, bytes)?;
             }
+            Err(fault) => print_refusal(&mut out, number, &fault)?,
         }
     }
     out.flush()

@@ -2,6 +2,7 @@
 use commands::command::{CommandFault, read_last_bytes};
 use lines::fault::LineFault;
 use lines::field::Fields;
+use lines::input::check_length;
 use std::alloc::Global;
 
 // The largest memory that may be asked for.
@@ -13,23 +14,31 @@ pub enum Make {
     Ledger,
 }
 
-// A keep that is wanted: set up or opened, with so many groups, and so many slots or lines.
+// How a keep comes to stand in a memory: blank, or with what the memory holds.
+#[derive(Clone, Copy)]
+pub enum Beginning {
+    SetUp,
+    Opened,
+}
+
+// A keep that is wanted, with so many groups, and so many slots or lines.
 #[derive(Clone, Copy)]
 pub struct Wanted {
-    pub set_up: bool,
+    pub beginning: Beginning,
     pub make: Make,
     pub groups: u32,
     pub size: u32,
 }
 
 #[derive(Drop)]
-pub enum Start {
+enum Start {
     Fill { at: u64, bytes: Vec<u8> },
     Keep(Wanted),
 }
 
-// How many bytes of memory a first line asks for; 15 LINE where it is malformed.
+// How many bytes of memory a first line asks for; 15 LINE where it is malformed or too long.
 pub fn read_memory(line: &[u8]) -> Result<usize, LineFault> {
+    check_length(line)?;
     let mut fields = Fields::new(line);
     fields.word(b"memory")?;
     let bytes = fields.number_up_to(LARGEST_MEMORY)?;
@@ -39,51 +48,55 @@ pub fn read_memory(line: &[u8]) -> Result<usize, LineFault> {
 
 fn read_make(fields: &mut Fields) -> Result<Make, LineFault> {
     let word = fields.text()?;
-    if word.is_word(b"blocks") {
-        Ok(Make::Blocks)
-    } else if word.is_word(b"ledger") {
-        Ok(Make::Ledger)
-    } else {
-        Err(LineFault { field: word.number })
+    match word.text {
+        b"blocks" => Ok(Make::Blocks),
+        b"ledger" => Ok(Make::Ledger),
+        _ => Err(word.wrong()),
     }
 }
 
-fn read_wanted(fields: &mut Fields, set_up: bool) -> Result<Wanted, LineFault> {
-    let make = read_make(fields)?;
-    let groups = fields.number_up_to(4294967295)?;
-    let size = fields.number_up_to(4294967295)?;
-    fields.end()?;
+fn read_wanted(fields: &mut Fields, beginning: Beginning) -> Result<Wanted, LineFault> {
     Ok(Wanted {
-        set_up,
-        make,
-        groups: groups as u32,
-        size: size as u32,
+        beginning,
+        make: read_make(fields)?,
+        groups: fields.value()?,
+        size: fields.last_value()?,
     })
 }
 
-// What a line asks for; 15 LINE where it is malformed.
-pub fn read_start(heap: Global, line: &[u8]) -> Result<Start, CommandFault> {
+// What a line asks for; 15 LINE where it is malformed or too long.
+fn read_start(heap: Global, line: &[u8]) -> Result<Start, CommandFault> {
+    check_length(line)?;
     let mut fields = Fields::new(line);
     let word = fields.text()?;
-    if word.is_word(b"fill") {
-        let at = fields.number()?;
-        let bytes = read_last_bytes(heap, &mut fields)?;
-        Ok(Start::Fill { at, bytes })
-    } else if word.is_word(b"set") {
-        Ok(Start::Keep(read_wanted(&mut fields, true)?))
-    } else if word.is_word(b"open") {
-        Ok(Start::Keep(read_wanted(&mut fields, false)?))
-    } else {
-        Err(CommandFault::Line(LineFault { field: word.number }))
+    match word.text {
+        b"fill" => Ok(Start::Fill {
+            at: fields.value()?,
+            bytes: read_last_bytes(heap, &mut fields)?,
+        }),
+        b"set" => Ok(Start::Keep(read_wanted(&mut fields, Beginning::SetUp)?)),
+        b"open" => Ok(Start::Keep(read_wanted(&mut fields, Beginning::Opened)?)),
+        _ => Err(CommandFault::Line(word.wrong())),
     }
 }
 
 // Writes bytes into the memory from a place on; LINE 2, and nothing written, where they pass its end.
-pub fn fill(memory: &mut [u8], at: u64, bytes: &[u8]) -> Result<(), LineFault> {
+fn fill(memory: &mut [u8], at: u64, bytes: &[u8]) -> Result<(), LineFault> {
     if at > memory.len() as u64 || bytes.len() > memory.len() - at as usize {
         return Err(LineFault { field: 2 });
     }
     let first = at as usize;
     memory[first..first + bytes.len()].copy_from_slice(bytes);
     Ok(())
+}
+
+// Fills in the bytes that a line brings, or tells which keep it wants; 15 LINE where it is malformed, too long or brings too much.
+pub fn begin(heap: Global, memory: &mut [u8], line: &[u8]) -> Result<Option<Wanted>, CommandFault> {
+    match read_start(heap, line)? {
+        Start::Keep(wanted) => Ok(Some(wanted)),
+        Start::Fill { at, bytes } => {
+            fill(memory, at, bytes.as_slice())?;
+            Ok(None)
+        }
+    }
 }

@@ -1,11 +1,7 @@
 -- What the bytes of an input mean: its lines, the fields of a line, and the number that a field writes.
 use Rattle.std.specs.Prelude.{ℕ, ◌+◌, ◌-◌, ◌*◌, ◌^◌, cond, ◌&&◌, List, [], ◌∷◌, Some, None, Option, ◌==◌, nat_lt}
+use Rattle.std.specs.List.{onto_first, slice_split}
 use Rattle.std.specs.Str.{all_ascii_digits}
-
--- the byte in front of the first part
-abbrev pub onto_first : ℕ → List (List ℕ) → List (List ℕ)
-onto_first b [] = (b ∷ []) ∷ []
-onto_first b (p ∷ ps) = (b ∷ p) ∷ ps
 
 -- a line ends at byte 10 or at the input's end, and no line follows a last byte 10
 abbrev pub lines_of : List ℕ → List (List ℕ)
@@ -14,8 +10,7 @@ lines_of (b ∷ bs) = cond (b == 10) ([] ∷ lines_of bs) (onto_first b (lines_o
 
 -- a line is cut at each space, so the empty line has one field, which is empty
 abbrev pub fields_of : List ℕ → List (List ℕ)
-fields_of [] = [] ∷ []
-fields_of (b ∷ bs) = cond (b == 32) ([] ∷ fields_of bs) (onto_first b (fields_of bs))
+fields_of line = slice_split (λ b. b == 32) line
 
 -- what the digits write, after those of n
 abbrev pub value_after : ℕ → List ℕ → ℕ

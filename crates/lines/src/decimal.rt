@@ -10,6 +10,7 @@ pub fn decimal(text: &[u8]) -> Option<u64>
 }
 
 // The same where the text may be empty, which stands for 0.
+#[tactic(auto, using(crate::proofs::Numbers::number_wrong, crate::proofs::Numbers::number_more, crate::proofs::Numbers::number_all))]
 fn digits(text: &[u8]) -> Option<u64>
     ensures { result ≡ number_after 0 text.now }
 {

@@ -1,10 +1,12 @@
 // The fields of a line, one after the other.
-ghost use Rattle.std.specs.Prelude.{◌≡◌, ◌∷◌};
+ghost use Rattle.std.specs.Prelude.{◌≡◌, ◌∷◌, length};
+ghost use Rattle.std.specs.Iterator.{at_most};
 ghost use Rattle.std.specs.Option.{option_map};
-ghost use Rattle.lines.specs.Readers.{fields_left, fields_read, fields_of_rest, next_number, numbered, past_first, next_field, read_on, none_left};
+ghost use Rattle.lines.specs.Readers.{GivesField, all_of, fields_of_rest, next_number, none_left};
 ghost use Rattle.lines.specs.Text.{fields_of};
 
 use crate::cut::cut;
+use std::marker::Model;
 
 // A part of a line between spaces, with its number, counted from 1. Numbers stop at 2^32 - 1: any later field has that one.
 #[derive(Clone, Copy)]
@@ -20,7 +22,18 @@ pub struct Fields<'a> {
     read: u32,
 }
 
+// The number of the last field that was read, and the fields that are left.
+impl<'a> Model for Fields<'a> {
+    ghost use Rattle.std.specs.Option.{option_map};
+    ghost use Rattle.lines.specs.Readers.{Unread, fields_of_rest};
+
+    ghost Value = { Unread };
+
+    ghost view = { λ s. record { read = s.read; left = fields_of_rest (option_map (λ x. x.now) s.rest) } };
+}
+
 // The first field, and what follows its space; nothing follows the last field.
+#[tactic(auto, using(crate::proofs::Splits::fields_split))]
 fn first_field(line: &[u8]) -> (&[u8], Option<&[u8]>)
     ensures { fields_of line.now ≡ result.0.now ∷ fields_of_rest (option_map (λ x. x.now) result.1) }
 {
@@ -29,8 +42,7 @@ fn first_field(line: &[u8]) -> (&[u8], Option<&[u8]>)
 
 impl<'a> Fields<'a> {
     pub fn new(line: &'a [u8]) -> Fields<'a>
-        ensures left { fields_left result ≡ fields_of line.now }
-        ensures count { fields_read result ≡ 0 }
+        ensures { result ≡ all_of line.now }
     {
         Fields {
             rest: Some(line),
@@ -38,31 +50,35 @@ impl<'a> Fields<'a> {
         }
     }
 
-    // The next field, or nothing past the last.
-    pub fn next(&mut self) -> Option<Field<'a>>
-        ensures field { option_map numbered result ≡ next_field (fields_read self.old) (fields_left self.old) }
-        ensures left { fields_left self.new ≡ past_first (fields_left self.old) }
-        ensures count { fields_read self.new ≡ read_on (fields_read self.old) (fields_left self.old) }
-    {
-        let line = self.rest?;
-        let number = self.next_number();
-        let (text, rest) = first_field(line);
-        self.rest = rest;
-        self.read = number;
-        Some(Field { number, text })
-    }
-
     // The number of the next field.
     pub(crate) fn next_number(&self) -> u32
-        ensures { result ≡ next_number (fields_read self.now) }
+        ensures { result ≡ next_number self.now.read }
     {
         self.read.saturating_add(1)
     }
 
     // Is no field left?
     pub(crate) fn is_done(&self) -> bool
-        ensures { result ≡ none_left (fields_left self.now) }
+        ensures { result ≡ none_left self.now.left }
     {
         self.rest.is_none()
+    }
+}
+
+// The next field, or nothing past the last.
+impl<'a> Iterator for Fields<'a> {
+    type Item = Field<'a>;
+
+    ghost next_gives = { GivesField };
+
+    ghost remaining = { λ u. at_most (length u.left) };
+
+    fn next(&mut self) -> Option<Field<'a>> {
+        let line = self.rest?;
+        let number = self.next_number();
+        let (text, rest) = first_field(line);
+        self.rest = rest;
+        self.read = number;
+        Some(Field { number, text })
     }
 }

@@ -1,3 +1,4 @@
+pub mod Drafts
 pub mod Refusal
 pub mod Wishes
 pub mod Machine

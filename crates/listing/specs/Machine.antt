@@ -1,19 +1,18 @@
 -- What the listing answers to each line, and what it waits for then.
-use Rattle.std.specs.Prelude.{◌≡◌, ℕ, ◌≤◌, Bool, true, false, cond, ◌&&◌, List, [], ◌∷◌, ◌++◌, length, is_ok, Some, None, Ok, Err, vec_items, codes, Option, Result, nat_le, nat_lt}
+use Rattle.std.specs.Prelude.{◌≡◌, ℕ, ◌≤◌, Bool, true, false, cond, ◌&&◌, List, length, is_ok, Some, None, Ok, Err, vec_items, codes, Option, Result, nat_le, nat_lt}
 use Rattle.keys.specs.Codes.{code_text, padded}
 use Rattle.keys.specs.Sheets.{largest_sheet, sheet_bytes}
+use Rattle.keys.specs.declared.fault.KeyFault.{KeyFault}
 use Rattle.keys.specs.declared.fault.KeyFault.TheVariants.{Inadmissible}
 use Rattle.lines.specs.declared.fault.LineFault.{LineFault}
-use Rattle.lines.specs.Fields.{word_field, text_field, number_field, line_end, then}
-use Rattle.lines.specs.Readers.{past_first, read_on}
-use Rattle.lines.specs.Text.{fields_of}
+use Rattle.lines.specs.Fields.{Reading, and_end, and_next, number_field, text_field, word_field}
+use Rattle.lines.specs.Readers.{Unread, all_of, onward}
 use Rattle.paths.specs.Rules.{settings_of}
 use Rattle.trees.specs.declared.fault.RuleFault.{RuleFault}
 use Rattle.trees.specs.declared.fault.RuleFault.TheVariants.{Setting, Coefficient}
 use Rattle.trees.specs.declared.settings.Coefficient.{Coefficient as Pair}
 use Rattle.trees.specs.declared.settings.Scheme.{Scheme}
 use Rattle.trees.specs.declared.settings.Scheme.TheVariants.{Thin, Fat, Trie}
-use Rattle.trees.specs.declared.settings.Settings.{Settings}
 use Rattle.trees.specs.Paths.{path_of}
 use Rattle.trees.specs.Refusal.{rule_refusal, total_of}
 use Rattle.trees.specs.Settings.{RuleSettings, asked_in_range, coefficient_fits, wanted, within}
@@ -26,12 +25,13 @@ use Rattle.listing.specs.declared.state.State.TheVariants.{Waiting, Collecting, 
 use Rattle.listing.specs.declared.wish.Kind.{Kind}
 use Rattle.listing.specs.declared.wish.Kind.TheVariants.{Num, Code}
 use Rattle.listing.specs.declared.wish.Wish.{Wish}
-use Rattle.listing.specs.Wishes.{number_then, set_line}
+use Rattle.listing.specs.Drafts.{Drafted, blank, one_more}
+use Rattle.listing.specs.Wishes.{set_line}
 
 -- What is waited for: settings; the coefficients of the next level, behind those so far; keys.
 pub data Phase : Type 0 where
   waiting : Phase
-  collecting : Kind → Settings → List Pair → Phase
+  collecting : Drafted → Phase
   ready : Kind → RuleSettings → Phase
 
 -- What is answered: nothing is printed, the total, a key's path, or a refusal.
@@ -52,40 +52,43 @@ made_by (Some f) kind s = (refused (Rule f), waiting)
 abbrev pub made : Kind → RuleSettings → Outcome
 made kind s = made_by (rule_refusal s) kind s
 
+abbrev pub finished : Drafted → Outcome
+finished d = made d.kind (wanted d.settings d.pairs)
+
 -- A thin or fat tree wants coefficients first.
-abbrev pub begun : Scheme → Kind → Settings → Outcome
-begun Thin kind s = (nothing, collecting kind s [])
-begun Fat kind s = (nothing, collecting kind s [])
-begun Trie kind s = made kind (wanted s [])
+abbrev pub begun : Scheme → Drafted → Outcome
+begun Thin d = (nothing, collecting d)
+begun Fat d = (nothing, collecting d)
+begun Trie d = finished d
 
 abbrev pub set_out : Wish → Outcome
 set_out w =
     cond (within 1 256 w.groups && asked_in_range w.settings)
-    (begun w.settings.scheme w.kind w.settings) (refused (Rule Setting), waiting)
+    (begun w.settings.scheme (blank w.kind w.settings)) (refused (Rule Setting), waiting)
 
 abbrev pub set_answer : Result Wish LineFault → Outcome
 set_answer (Ok w) = set_out w
 set_answer (Err f) = (refused (Line f), waiting)
 
 -- The fields behind `coef`.
-abbrev pub pair_field : (n : ℕ) (ts : List (List ℕ)) → Result Pair LineFault
-pair_field n ts = number_then n ts (λ a n ts. number_then n ts (λ b n ts. then (line_end n ts) (λ _. Ok (record { a = a; b = b }))))
+abbrev pub pair_field : Reading Pair
+pair_field u = and_next number_field (λ a. and_next number_field (λ b. and_end (record { a = a; b = b }))) u
 
-abbrev pub grown : Kind → Settings → List Pair → Outcome
-grown kind s pairs = cond (nat_lt (length pairs) s.levels) (nothing, collecting kind s pairs) (made kind (wanted s pairs))
+abbrev pub grown : Drafted → Outcome
+grown d = cond (nat_lt (length d.pairs) d.settings.levels) (nothing, collecting d) (finished d)
 
 -- The coefficients of one level more.
-abbrev pub with_pair : Kind → Settings → List Pair → Pair → Outcome
-with_pair kind s pairs p = cond (coefficient_fits p) (grown kind s (pairs ++ p ∷ [])) (refused (Rule (Coefficient (length pairs))), waiting)
+abbrev pub with_pair : Drafted → Pair → Outcome
+with_pair d p = cond (coefficient_fits p) (grown (one_more d p)) (refused (Rule (Coefficient (length d.pairs))), waiting)
 
-abbrev pub pair_answer : Kind → Settings → List Pair → Result Pair LineFault → Outcome
-pair_answer kind s pairs (Ok p) = with_pair kind s pairs p
-pair_answer kind s pairs (Err f) = (refused (Line f), waiting)
+abbrev pub pair_answer : Drafted → Result Pair LineFault → Outcome
+pair_answer d (Ok p) = with_pair d p
+pair_answer d (Err f) = (refused (Line f), waiting)
 
 -- A line that does not begin with `coef` leaves the coefficients so far.
-abbrev pub coef_answer : Kind → Settings → List Pair → Result (Unit {0}) LineFault → (n : ℕ) (ts : List (List ℕ)) → Outcome
-coef_answer kind s pairs (Ok _) n ts = pair_answer kind s pairs (pair_field n ts)
-coef_answer kind s pairs (Err f) n ts = (refused (Line f), collecting kind s pairs)
+abbrev pub coef_answer : Drafted → Result (Unit {0}) LineFault → Unread → Outcome
+coef_answer d (Ok _) u = pair_answer d (pair_field u)
+coef_answer d (Err f) u = (refused (Line f), collecting d)
 
 -- The bytes of a key, or its refusal.
 abbrev pub sheet_key : ℕ → Result (List ℕ) Fault
@@ -94,13 +97,18 @@ sheet_key n = cond (nat_le n largest_sheet) (Ok (sheet_bytes n)) (Err (Key Inadm
 abbrev pub code_key : List ℕ → Result (List ℕ) Fault
 code_key text = cond (code_text text) (Ok (padded text)) (Err (Key Inadmissible))
 
+-- The bytes of a key that there is.
+abbrev pub spelled_by : {K : Type 0} → (K → List ℕ) → Result K KeyFault → Result (List ℕ) Fault
+spelled_by spelling (Ok k) = Ok (spelling k)
+spelled_by spelling (Err f) = Err (Key f)
+
 abbrev pub in_line : {A : Type 0} → Result A LineFault → (A → Result (List ℕ) Fault) → Result (List ℕ) Fault
 in_line (Ok x) f = f x
 in_line (Err e) f = Err (Line e)
 
-abbrev pub key_of : Kind → (ts : List (List ℕ)) → Result (List ℕ) Fault
-key_of Num ts = in_line (number_field 0 ts) (λ n. in_line (line_end (read_on 0 ts) (past_first ts)) (λ _. sheet_key n))
-key_of Code ts = in_line (text_field 0 ts) (λ t. in_line (line_end (read_on 0 ts) (past_first ts)) (λ _. code_key t.1))
+abbrev pub key_of : Kind → Unread → Result (List ℕ) Fault
+key_of Num u = in_line (and_next number_field and_end u) sheet_key
+key_of Code u = in_line (and_next text_field and_end u) (λ t. code_key t.1)
 
 abbrev pub key_answer : Kind → RuleSettings → Result (List ℕ) Fault → Outcome
 key_answer kind s (Ok key) = (path_is (path_of s key), ready kind s)
@@ -109,9 +117,8 @@ key_answer kind s (Err f) = (refused f, ready kind s)
 -- What a line of at most 80 bytes comes to.
 abbrev pub taken : Phase → List ℕ → Outcome
 taken waiting line = set_answer (set_line line)
-taken (collecting kind s pairs) line =
-    coef_answer kind s pairs (word_field (codes "coef") 0 (fields_of line)) (read_on 0 (fields_of line)) (past_first (fields_of line))
-taken (ready kind s) line = key_answer kind s (key_of kind (fields_of line))
+taken (collecting d) line = coef_answer d (word_field (codes "coef") (all_of line)) (onward (all_of line))
+taken (ready kind s) line = key_answer kind s (key_of kind (all_of line))
 
 -- What a line comes to; one that is too long leaves all as it was.
 abbrev pub outcome : Phase → List ℕ → Outcome
@@ -120,7 +127,7 @@ outcome before line = cond (nat_le (length line) 80) (taken before line) (refuse
 -- The state and the reply of the program, in these words.
 abbrev pub phase : State → Phase
 phase Waiting = waiting
-phase (Collecting kind s pairs) = collecting kind s (vec_items pairs)
+phase (Collecting d) = collecting d
 phase (Ready kind rule) = ready kind (settings_of rule)
 
 abbrev pub said : Reply → Said
@@ -155,7 +162,7 @@ Lacking (Err Memory) P = P
 -- Where memory ran out, coefficients so far are lost, and nothing else.
 abbrev pub after_shortage : Phase → Phase
 after_shortage waiting = waiting
-after_shortage (collecting kind s pairs) = waiting
+after_shortage (collecting d) = waiting
 after_shortage (ready kind s) = ready kind s
 
 -- Memory is asked for only to keep coefficients that fit, and to list the path of a key.
@@ -163,15 +170,14 @@ abbrev pub pair_kept : Result Pair LineFault → Bool
 pair_kept (Ok p) = coefficient_fits p
 pair_kept (Err f) = false
 
-abbrev pub coef_kept : Result (Unit {0}) LineFault → (n : ℕ) (ts : List (List ℕ)) → Bool
-coef_kept (Ok _) n ts = pair_kept (pair_field n ts)
-coef_kept (Err f) n ts = false
+abbrev pub coef_kept : Result (Unit {0}) LineFault → Unread → Bool
+coef_kept (Ok _) u = pair_kept (pair_field u)
+coef_kept (Err f) u = false
 
 abbrev pub wants_memory : Phase → List ℕ → Bool
 wants_memory waiting line = false
-wants_memory (collecting kind s pairs) line =
-    coef_kept (word_field (codes "coef") 0 (fields_of line)) (read_on 0 (fields_of line)) (past_first (fields_of line))
-wants_memory (ready kind s) line = is_ok (key_of kind (fields_of line))
+wants_memory (collecting d) line = coef_kept (word_field (codes "coef") (all_of line)) (onward (all_of line))
+wants_memory (ready kind s) line = is_ok (key_of kind (all_of line))
 
 -- One line: the answer and what is waited for then are those of the rules. Memory may run out only where it is asked for.
 pub record Steps (before : Phase) (line : List ℕ) (answer : Result Reply Fault) (after : Phase) : Type 0 where

@@ -5,6 +5,7 @@ ghost use Rattle.listing.specs.declared.fault.Fault.TheVariants.{Line as InLine,
 
 use keys::fault::KeyFault;
 use lines::fault::LineFault;
+use refusals::Refusal;
 use std::alloc::{AllocError, AllocFailed};
 use trees::fault::RuleFault;
 use trees::settings::Coefficient;
@@ -14,15 +15,16 @@ pub enum Fault {
     Line(LineFault),
     Key(KeyFault),
     Rule(RuleFault),
-    // Want of memory: no refusal of the rules, so its number is 0.
+    // Want of memory: no refusal of the rules, so its number is 0. An optional number would burden every refusal for this one.
     Memory,
 }
 
-impl Fault {
-    // The refusal's number.
-    pub fn number(&self) -> u32
-        ensures { result ≡ refusal_number self.now }
-    {
+impl Refusal for Fault {
+    ghost number_of = { refusal_number };
+
+    ghost detail_of = { refusal_detail };
+
+    fn number(&self) -> u32 {
         match self {
             Fault::Line(fault) => fault.number(),
             Fault::Key(fault) => fault.number(),
@@ -31,10 +33,7 @@ impl Fault {
         }
     }
 
-    // The refusal's detail.
-    pub fn detail(&self) -> Option<u64>
-        ensures { result ≡ refusal_detail self.now }
-    {
+    fn detail(&self) -> Option<u64> {
         match self {
             Fault::Line(fault) => fault.detail(),
             Fault::Key(fault) => fault.detail(),

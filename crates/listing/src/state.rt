@@ -1,23 +1,16 @@
 // What the listing keeps between two lines, and what it answers to one.
+use crate::draft::Draft;
 use crate::wish::Kind;
 use paths::rule::Rule;
-use trees::settings::{Coefficient, Settings};
 
 #[derive(Drop)]
 pub enum State {
     // For a `set` line.
     Waiting,
     // For the `coef` line of the next level.
-    Collecting {
-        kind: Kind,
-        settings: Settings,
-        coefficients: Vec<Coefficient>,
-    },
+    Collecting(Draft),
     // For keys.
-    Ready {
-        kind: Kind,
-        rule: Rule,
-    },
+    Ready { kind: Kind, rule: Rule },
 }
 
 // What is printed for a line that is accepted.

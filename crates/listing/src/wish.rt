@@ -1,10 +1,11 @@
 // The line that asks for a tree: `set KIND RULE m k L t G`.
 ghost use Rattle.std.specs.Prelude.{◌≡◌};
-ghost use Rattle.lines.specs.Readers.{fields_left, fields_read, past_first, read_on};
-ghost use Rattle.listing.specs.Wishes.{kind_field, scheme_field, numbers_field, set_line};
+ghost use Rattle.lines.specs.Readers.{onward};
+ghost use Rattle.listing.specs.Wishes.{kind_of, numbers_field, scheme_field, scheme_of, set_line};
 
 use lines::fault::LineFault;
 use lines::field::Fields;
+use lines::parse::FromField;
 use trees::settings::{Scheme, Settings};
 
 // The kind of the keys that will come.
@@ -23,52 +24,48 @@ pub struct Wish {
     pub groups: u64,
 }
 
-fn read_kind(fields: &mut Fields) -> Result<Kind, LineFault>
-    ensures value { result ≡ kind_field (fields_read fields.old) (fields_left fields.old) }
-    ensures left { fields_left fields.new ≡ past_first (fields_left fields.old) }
-    ensures count { fields_read fields.new ≡ read_on (fields_read fields.old) (fields_left fields.old) }
-{
-    let field = fields.text()?;
-    if field.is_word(b"num") {
-        Ok(Kind::Num)
-    } else if field.is_word(b"code") {
-        Ok(Kind::Code)
-    } else {
-        Err(LineFault {
-            field: field.number,
-        })
+impl FromField for Kind {
+    ghost meaning = { kind_of };
+
+    fn from_field(text: &[u8]) -> Option<Kind> {
+        match text {
+            b"num" => Some(Kind::Num),
+            b"code" => Some(Kind::Code),
+            _ => None,
+        }
     }
 }
 
+// The scheme of this name.
+fn scheme_named(text: &[u8]) -> Option<Scheme>
+    ensures { result ≡ scheme_of text.now }
+{
+    match text {
+        b"thin" => Some(Scheme::Thin),
+        b"fat" => Some(Scheme::Fat),
+        b"trie" => Some(Scheme::Trie),
+        _ => None,
+    }
+}
+
+// The scheme in the next field: trait and type are both another crate's, so no `impl FromField` can stand here.
 fn read_scheme(fields: &mut Fields) -> Result<Scheme, LineFault>
-    ensures value { result ≡ scheme_field (fields_read fields.old) (fields_left fields.old) }
-    ensures left { fields_left fields.new ≡ past_first (fields_left fields.old) }
-    ensures count { fields_read fields.new ≡ read_on (fields_read fields.old) (fields_left fields.old) }
+    ensures value { result ≡ scheme_field fields.old }
+    ensures onward { fields.new ≡ onward fields.old }
 {
     let field = fields.text()?;
-    if field.is_word(b"thin") {
-        Ok(Scheme::Thin)
-    } else if field.is_word(b"fat") {
-        Ok(Scheme::Fat)
-    } else if field.is_word(b"trie") {
-        Ok(Scheme::Trie)
-    } else {
-        Err(LineFault {
-            field: field.number,
-        })
-    }
+    scheme_named(field.text).ok_or(field.wrong())
 }
 
 // The numbers m, k, L, t and G, and then no more fields.
 fn read_numbers(fields: &mut Fields, kind: Kind, scheme: Scheme) -> Result<Wish, LineFault>
-    ensures { result ≡ numbers_field kind scheme (fields_read fields.old) (fields_left fields.old) }
+    ensures { result ≡ numbers_field kind scheme fields.old }
 {
-    let cells = fields.number()?;
-    let children = fields.number()?;
-    let levels = fields.number()?;
-    let tries = fields.number()?;
-    let groups = fields.number()?;
-    fields.end()?;
+    let cells = fields.value()?;
+    let children = fields.value()?;
+    let levels = fields.value()?;
+    let tries = fields.value()?;
+    let groups = fields.last_value()?;
     Ok(Wish {
         kind,
         settings: Settings {
@@ -89,7 +86,7 @@ impl Wish {
     {
         let mut fields = Fields::new(line);
         fields.word(b"set")?;
-        let kind = read_kind(&mut fields)?;
+        let kind = fields.value()?;
         let scheme = read_scheme(&mut fields)?;
         read_numbers(&mut fields, kind, scheme)
     }

@@ -1,8 +1,8 @@
 // Prints, for settings and keys on standard input, every cell in which each key's entry may ever stand.
 #![tactic(auto)]
 
-use console::{LONGEST_INPUT, print_refusal, read_batch};
-use lines::input::Lines;
+use console::{numbered, print_refusal, read_batch};
+use lines::fault::LineFault;
 use listing::fault::Fault;
 use listing::machine::Listing;
 use listing::state::Reply;
@@ -22,21 +22,17 @@ fn print_path(out: &mut impl Write, key: &[u8], cells: &[u32]) -> io::Result<()>
 fn main(rt: HostRuntime) -> io::Result<()> {
     let mut out = BufWriter::new(rt.alloc(), rt.stdout())?;
     let Some(batch) = read_batch(rt.alloc(), rt.stdin())? else {
-        print_refusal(&mut out, 0, 15, Some(0))?;
+        print_refusal(&mut out, 0, &LineFault { field: 0 })?;
         return out.flush();
     };
     let mut listing = Listing::new();
-    let mut lines = Lines::new(batch.as_slice());
-    for number in 1..=LONGEST_INPUT {
-        let Some(line) = lines.next_line() else {
-            break;
-        };
+    for (number, line) in numbered(batch.as_slice()) {
         match listing.step(rt.alloc(), line) {
             Ok(Reply::Nothing) => {}
             Ok(Reply::Total { total }) => writeln!(out, "ready {total}")?,
             Ok(Reply::Path { cells }) => print_path(&mut out, line, cells.as_slice())?,
             Err(Fault::Memory) => return Err(AllocError.into()),
-            Err(fault) => print_refusal(&mut out, number, fault.number(), fault.detail())?,
+            Err(fault) => print_refusal(&mut out, number, &fault)?,
         }
     }
     out.flush()

@@ -1,7 +1,7 @@
 // The line that asks for a pile of stores, by a word and numbers.
-use console::LONGEST_LINE;
 use lines::fault::LineFault;
 use lines::field::Fields;
+use lines::input::check_length;
 
 // The largest number that a pile may be asked for with.
 const LARGEST: u64 = 64;
@@ -13,6 +13,18 @@ pub struct ReelSize {
     pub lines: u32,
 }
 
+impl ReelSize {
+    // The bytes that such a reel needs.
+    pub fn bytes(self) -> u32 {
+        self.lines.saturating_mul(28).saturating_add(4)
+    }
+}
+
+// The bytes that a plate needs.
+pub fn plate_bytes(cells: u32) -> u32 {
+    cells.saturating_mul(25)
+}
+
 // A window's run of cells.
 #[derive(Clone, Copy)]
 pub struct Run {
@@ -20,32 +32,22 @@ pub struct Run {
     pub count: u32,
 }
 
+// A pile, by the store at its bottom, or the two that are joined there; over one, or over the join, there may be a window.
 #[derive(Clone, Copy)]
 pub enum Pile {
     Plate {
         cells: u32,
+        shown: Option<Run>,
     },
     Reel {
         reel: ReelSize,
     },
-    Window {
-        cells: u32,
-        run: Run,
-    },
+    // Of the plate as it is, or a window on it, and the reel.
     Join {
         cells: u32,
+        inner: Option<Run>,
         reel: ReelSize,
-    },
-    Shown {
-        cells: u32,
-        reel: ReelSize,
-        run: Run,
-    },
-    Deep {
-        cells: u32,
-        inner: Run,
-        reel: ReelSize,
-        run: Run,
+        shown: Option<Run>,
     },
 }
 
@@ -67,47 +69,43 @@ fn read_run(fields: &mut Fields) -> Result<Run, LineFault> {
 
 fn numbers(fields: &mut Fields) -> Result<Pile, LineFault> {
     let word = fields.text()?;
-    if word.is_word(b"plate") {
-        Ok(Pile::Plate {
+    match word.text {
+        b"plate" => Ok(Pile::Plate {
             cells: small(fields)?,
-        })
-    } else if word.is_word(b"reel") {
-        Ok(Pile::Reel {
+            shown: None,
+        }),
+        b"reel" => Ok(Pile::Reel {
             reel: reel_size(fields)?,
-        })
-    } else if word.is_word(b"window") {
-        Ok(Pile::Window {
+        }),
+        b"window" => Ok(Pile::Plate {
             cells: small(fields)?,
-            run: read_run(fields)?,
-        })
-    } else if word.is_word(b"join") {
-        Ok(Pile::Join {
+            shown: Some(read_run(fields)?),
+        }),
+        b"join" => Ok(Pile::Join {
             cells: small(fields)?,
+            inner: None,
             reel: reel_size(fields)?,
-        })
-    } else if word.is_word(b"shown") {
-        Ok(Pile::Shown {
+            shown: None,
+        }),
+        b"shown" => Ok(Pile::Join {
             cells: small(fields)?,
+            inner: None,
             reel: reel_size(fields)?,
-            run: read_run(fields)?,
-        })
-    } else if word.is_word(b"deep") {
-        Ok(Pile::Deep {
+            shown: Some(read_run(fields)?),
+        }),
+        b"deep" => Ok(Pile::Join {
             cells: small(fields)?,
-            inner: read_run(fields)?,
+            inner: Some(read_run(fields)?),
             reel: reel_size(fields)?,
-            run: read_run(fields)?,
-        })
-    } else {
-        Err(LineFault { field: word.number })
+            shown: Some(read_run(fields)?),
+        }),
+        _ => Err(word.wrong()),
     }
 }
 
 // What a line asks for; 15 LINE where it is malformed.
 pub fn read_pile(line: &[u8]) -> Result<Pile, LineFault> {
-    if line.len() > LONGEST_LINE {
-        return Err(LineFault { field: 0 });
-    }
+    check_length(line)?;
     let mut fields = Fields::new(line);
     let pile = numbers(&mut fields)?;
     fields.end()?;
