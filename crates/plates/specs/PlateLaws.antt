@@ -2,7 +2,7 @@
 use Rattle.std.specs.Prelude.{◌≡◌, ℕ, ◌+◌, ◌*◌, ◌<◌, ◌≤◌, Bool, true, false, cond, ◌&&◌, List, length, drop, ◌==◌, nat_lt, refl}
 use Rattle.std.proofs.Common.{div-mul-le_self, arith, ap, sym, ◌∙◌, length-take, length-drop}
 use Rattle.std.proofs.lemmas.Bool.{cond-false, and_left, le-ltb, ltb-true}
-use Rattle.stores.specs.Cells.{blank, written}
+use Rattle.stores.specs.Cells.{Cell, blank, written}
 use Rattle.stores.specs.Laws.{StoreLaws}
 use Rattle.plates.specs.declared.plate.Plate.{Plate}
 use Rattle.plates.specs.Plates.{plate_cells, plate_cell, plate_takes, flag, place}
@@ -40,6 +40,15 @@ plate_laws_of count memory =
           ap length (sym parts.1) ∙ length_place (memory p) d (room_for (count p) (memory p) d (ltb-true d _ parts.0));
     }
 
-pub plate_laws :
-    StoreLaws (λ (p : Plate). plate_cells p.count p.memory.now) (λ p. plate_cell p.count p.memory.now) (λ p. plate_takes p.count p.memory.now)
+-- What a plate shows of itself.
+abbrev pub cells_of : Plate → ℕ
+cells_of p = plate_cells p.count p.memory.now
+
+abbrev pub cell_of : Plate → ℕ → Cell
+cell_of p = plate_cell p.count p.memory.now
+
+abbrev pub takes_of : Plate → ℕ → Bool
+takes_of p = plate_takes p.count p.memory.now
+
+pub plate_laws : StoreLaws cells_of cell_of takes_of
 plate_laws = plate_laws_of (λ p. p.count) (λ p. p.memory.now)

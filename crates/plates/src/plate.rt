@@ -10,22 +10,22 @@ use stores::store::Store;
 pub struct Plate<'a> {
     pub(crate) memory: &'a mut [u8],
     pub(crate) count: u32,
-    // Its cells are as many as a store may have, and memory holds them.
+    // Its cells are no more than a store may have, and memory holds them.
     ghost few: { count ≤ largest_store },
     ghost fits: { 25 * count ≤ length memory.now },
 }
 
 impl<'a> Store for Plate<'a> {
-    ghost use Rattle.std.specs.Prelude.{◌≡◌, ℕ, false, is_ok, MatchResult};
-    ghost use Rattle.stores.specs.Cells.{after_write, write_answer};
-    ghost use Rattle.plates.specs.PlateLaws.{plate_laws};
-    ghost use Rattle.plates.specs.Plates.{Plated, plate_cells, plate_cell, plate_takes};
+    ghost use Rattle.std.specs.Prelude.{◌≡◌, MatchResult};
+    ghost use Rattle.stores.specs.Done.{WriteDone};
+    ghost use Rattle.plates.specs.PlateLaws.{cell_of, cells_of, plate_laws, takes_of};
+    ghost use Rattle.plates.specs.Plates.{Plated};
 
-    ghost cells = { λ p. plate_cells p.count p.memory.now };
+    ghost cells = { cells_of };
 
-    ghost cell = { λ p. plate_cell p.count p.memory.now };
+    ghost cell = { cell_of };
 
-    ghost takes = { λ p. plate_takes p.count p.memory.now };
+    ghost takes = { takes_of };
 
     ghost laws = { plate_laws };
 
@@ -50,10 +50,7 @@ impl<'a> Store for Plate<'a> {
 
     // Accepted, it changes the 25 bytes of that cell; refused, no byte at all.
     fn write(&mut self, at: u32, bytes: &[u8]) -> Result<(), StoreFault>
-        ensures value { result ≡ write_answer (plate_cells self.old.count self.old.memory.now) (plate_cell self.old.count self.old.memory.now) (plate_takes self.old.count self.old.memory.now) at bytes.now }
-        ensures after { (d : ℕ) → plate_cell self.new.count self.new.memory.now d ≡ after_write result (plate_cell self.old.count self.old.memory.now) at bytes.now d }
-        ensures size { plate_cells self.new.count self.new.memory.now ≡ plate_cells self.old.count self.old.memory.now }
-        ensures same { is_ok result ≡ false → self.new ≡ self.old }
+        ensures done { WriteDone cells_of cell_of takes_of self.old self.new at bytes.now result }
         ensures bytes { MatchResult result (λ _. Plated self.old.memory.now self.new.memory.now at bytes.now) (λ _. self.new.memory.now ≡ self.old.memory.now) }
     {
         self.check(at, bytes.len())?;

@@ -24,8 +24,7 @@ fn fit(count: u32, bytes: usize) -> Result<usize, SetUpFault>
 }
 
 // Zeroes the bytes of so many cells, and no others.
-// (Every make sets up so, by its own numbers and its own test: one generic function would take the test and the size as
-// closures and say no more.)
+// (Every make sets up so, by its own numbers and its own test: what they share is the two lines below.)
 pub fn clear(memory: &mut [u8], count: u32) -> Result<(), SetUpFault>
     ensures value { result ≡ plate_fit count (length memory.old) }
     ensures after { memory.new ≡ (if is_ok result then zeroed (25 * count) memory.old else memory.old) }

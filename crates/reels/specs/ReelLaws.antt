@@ -3,7 +3,7 @@ use Rattle.std.specs.Prelude.{◌≡◌, ℕ, zero, suc, ◌+◌, ◌-◌, ◌*�
 use Rattle.std.proofs.Common.{div-mul-le_self, arith, ap, sym, ◌∙◌, length-take, length-drop}
 use Rattle.std.proofs.lemmas.Bool.{cond-false, and_left, le-ltb}
 use Rattle.std.specs.Option.{option_or}
-use Rattle.stores.specs.Cells.{blank, written, cell_length}
+use Rattle.stores.specs.Cells.{Cell, blank, written, cell_length}
 use Rattle.stores.specs.Laws.{StoreLaws}
 use Rattle.reels.specs.declared.reel.Reel.{Reel}
 use Rattle.reels.specs.Reels.{reel_cells, reel_room, reel_used, line_number, line_bytes, found, cell_on, reel_cell, reel_takes}
@@ -54,6 +54,15 @@ reel_laws_of cells lines memory =
       long = λ r d x. long_by (nat_lt d (reel_cells (cells r))) (lines r) (memory r) d x;
     }
 
-pub reel_laws :
-    StoreLaws (λ (r : Reel). reel_cells r.cells) (λ r. reel_cell r.cells r.lines r.memory.now) (λ r. reel_takes r.cells r.lines r.memory.now)
+-- What a reel shows of itself.
+abbrev pub cells_of : Reel → ℕ
+cells_of r = reel_cells r.cells
+
+abbrev pub cell_of : Reel → ℕ → Cell
+cell_of r = reel_cell r.cells r.lines r.memory.now
+
+abbrev pub takes_of : Reel → ℕ → Bool
+takes_of r = reel_takes r.cells r.lines r.memory.now
+
+pub reel_laws : StoreLaws cells_of cell_of takes_of
 reel_laws = reel_laws_of (λ r. r.cells) (λ r. r.lines) (λ r. r.memory.now)

@@ -9,6 +9,7 @@ use stores::fault::StoreFault;
 use stores::store::Store;
 
 // Where a line begins: behind the count and the lines before it.
+// (Lines by their places, and no arrays: a write writes one line, and of what arrays lend for writing only the length is known.)
 pub(crate) fn place(line: u32) -> usize
     ensures { result ≡ 4 + 28 * line }
 {

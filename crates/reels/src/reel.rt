@@ -12,23 +12,23 @@ pub struct Reel<'a> {
     pub(crate) memory: &'a mut [u8],
     pub(crate) cells: u32,
     pub(crate) lines: u32,
-    // Its cells and lines are as many as a store may have, and memory holds the count and the lines.
+    // Its cells and lines are no more than a store may have, and memory holds the count and the lines.
     ghost few: { cells ≤ largest_store },
     ghost few_lines: { lines ≤ largest_store },
     ghost fits: { 4 + 28 * lines ≤ length memory.now },
 }
 
 impl<'a> Store for Reel<'a> {
-    ghost use Rattle.std.specs.Prelude.{◌≡◌, ℕ, false, is_ok, if◌then◌else◌};
-    ghost use Rattle.stores.specs.Cells.{after_write, write_answer};
-    ghost use Rattle.reels.specs.ReelLaws.{reel_laws};
-    ghost use Rattle.reels.specs.Reels.{line_added, reel_cells, reel_cell, reel_takes, reel_used};
+    ghost use Rattle.std.specs.Prelude.{◌≡◌, is_ok, if◌then◌else◌};
+    ghost use Rattle.stores.specs.Done.{WriteDone};
+    ghost use Rattle.reels.specs.ReelLaws.{cell_of, cells_of, reel_laws, takes_of};
+    ghost use Rattle.reels.specs.Reels.{line_added, reel_used};
 
-    ghost cells = { λ r. reel_cells r.cells };
+    ghost cells = { cells_of };
 
-    ghost cell = { λ r. reel_cell r.cells r.lines r.memory.now };
+    ghost cell = { cell_of };
 
-    ghost takes = { λ r. reel_takes r.cells r.lines r.memory.now };
+    ghost takes = { takes_of };
 
     ghost laws = { reel_laws };
 
@@ -53,10 +53,7 @@ impl<'a> Store for Reel<'a> {
 
     // Of all memory it changes the line behind the used ones and the count, and nothing where it is refused.
     fn write(&mut self, at: u32, bytes: &[u8]) -> Result<(), StoreFault>
-        ensures value { result ≡ write_answer (reel_cells self.old.cells) (reel_cell self.old.cells self.old.lines self.old.memory.now) (reel_takes self.old.cells self.old.lines self.old.memory.now) at bytes.now }
-        ensures after { (d : ℕ) → reel_cell self.new.cells self.new.lines self.new.memory.now d ≡ after_write result (reel_cell self.old.cells self.old.lines self.old.memory.now) at bytes.now d }
-        ensures size { reel_cells self.new.cells ≡ reel_cells self.old.cells }
-        ensures same { is_ok result ≡ false → self.new ≡ self.old }
+        ensures done { WriteDone cells_of cell_of takes_of self.old self.new at bytes.now result }
         ensures memory { self.new.memory.now ≡ (if is_ok result then line_added (reel_used self.old.lines self.old.memory.now) at bytes.now self.old.memory.now else self.old.memory.now) }
     {
         let n = self.free_line(at, bytes)?;

@@ -26,8 +26,7 @@ fn fit(cells: u32, lines: u32, bytes: usize) -> Result<usize, SetUpFault>
 }
 
 // Zeroes the count and the bytes of so many lines, and no others.
-// (Every make sets up so, by its own numbers and its own test: one generic function would take the test and the size as
-// closures and say no more.)
+// (Every make sets up so, by its own numbers and its own test: what they share is the two lines below.)
 pub fn clear(memory: &mut [u8], cells: u32, lines: u32) -> Result<(), SetUpFault>
     ensures value { result ≡ reel_fit cells lines (length memory.old) }
     ensures after { memory.new ≡ (if is_ok result then zeroed (4 + 28 * lines) memory.old else memory.old) }

@@ -37,6 +37,7 @@ fn length_goes_before_beyond(rt: HostRuntime) -> Result<(), Fail> {
 }
 
 // Whether so many cells can be set up in 50 bytes.
+// (Each make has its own: it lends its own memory for the call.)
 fn set_up(count: u32) -> Result<(), SetUpFault> {
     let mut memory = [0; 50];
     Plate::set_up(&mut memory, count)?;

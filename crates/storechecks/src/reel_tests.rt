@@ -21,6 +21,7 @@ fn a_full_reel_takes_no_cell(rt: HostRuntime) -> Result<(), Fail> {
 }
 
 // Whether so many cells and lines can be set up in 60 bytes.
+// (Each make has its own: it lends its own memory for the call.)
 fn set_up(cells: u32, lines: u32) -> Result<(), SetUpFault> {
     let mut memory = [0; 60];
     Reel::set_up(&mut memory, cells, lines)?;

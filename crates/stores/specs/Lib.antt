@@ -1,4 +1,5 @@
 pub mod Cells
+pub mod Done
 pub mod Laws
 pub mod Refusal
 pub mod Writes

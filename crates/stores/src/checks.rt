@@ -21,7 +21,8 @@ pub fn write_one<S: Store>(store: &mut S, at: u32, bytes: &[u8]) -> Result<(), S
     store.write(at, bytes)
 }
 
-// Any list of writes, accepted or not, and how many were: a written cell never changes again.
+// Any list of writes, accepted or not, and how many were: a written cell never changes again. (A `for`, and no `filter` and
+// `count`: what a closure leaves of a store that it writes is not known.)
 pub fn write_each<S: Store>(store: &mut S, writes: &[Write]) -> usize
     ensures kept { Kept (S.cell store.old) (S.cell store.new) }
     ensures size { S.cells store.new ≡ S.cells store.old }

@@ -83,6 +83,8 @@ impl Refusal for SetUpFault {
     }
 
     fn detail(&self) -> Option<u64> {
-        None
+        match self {
+            SetUpFault::Setting | SetUpFault::Size => None,
+        }
     }
 }

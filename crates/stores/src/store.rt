@@ -1,6 +1,7 @@
 // What a store is.
-ghost use Rattle.std.specs.Prelude.{◌≡◌, ℕ, Bool, false, length, is_ok};
-ghost use Rattle.stores.specs.Cells.{Cell, check_answer, held_answer, read_answer, read_fill, write_answer, after_write};
+ghost use Rattle.std.specs.Prelude.{◌≡◌, ℕ, Bool, length};
+ghost use Rattle.stores.specs.Cells.{Cell, check_answer, held_answer, read_answer, read_fill};
+ghost use Rattle.stores.specs.Done.{WriteDone};
 ghost use Rattle.stores.specs.Laws.{StoreLaws};
 
 use crate::fault::StoreFault;
@@ -38,10 +39,7 @@ pub trait Store {
 
     // Writes a cell that can be taken; refused, it leaves the store as it was.
     fn write(&mut self, at: u32, bytes: &[u8]) -> Result<(), StoreFault>
-        ensures value { result ≡ write_answer (cells self.old) (cell self.old) (takes self.old) at bytes.now }
-        ensures after { (d : ℕ) → cell self.new d ≡ after_write result (cell self.old) at bytes.now d }
-        ensures size { cells self.new ≡ cells self.old }
-        ensures same { is_ok result ≡ false → self.new ≡ self.old };
+        ensures done { WriteDone cells cell takes self.old self.new at bytes.now result };
 
     // What every read and write looks at first: 14 LENGTH, then 11 BEYOND.
     fn check(&self, at: u32, long: usize) -> Result<(), StoreFault>

@@ -1,5 +1,5 @@
 -- An accepted write leaves that cell written and no other changed.
-use Rattle.std.proofs.Common.{ℕ, ◌+◌, ◌-◌, ◌++◌, List, length, sym, refl, ap, ◌∙◌, arith}
+use Rattle.std.proofs.Common.{rules, ℕ, ◌+◌, ◌-◌, ◌++◌, List, length, sym, refl, ap, ◌∙◌, arith}
 use Rattle.octets.specs.Numbers.{big_endian}
 use Rattle.octets.specs.Overwriting.{overwritten}
 use Rattle.octets.proofs.Overwrites.{put_part, overwritten_two, written_where_it_fits, length-overwritten}
@@ -26,10 +26,15 @@ returns-clause-memory c =
     ∙ ap (λ (k : ℕ). overwritten 0 (big_endian 4 (n + 1)) (overwritten k (number ++ bytes) old)) c.place-first.ensures
     ∙ ap (λ (k : ℕ). line_added k c.args.at bytes old) free.next
 
-pub returns-clause-after : goal.returns-clause-after
-returns-clause-after c =
+pub returns-clause-done : goal.returns-clause-done
+returns-clause-done c =
     let free = c.in_ok-n.ensures.line in
     let reel = c.args.self.now in
     let old = reel.memory.now in
-    λ d. ap (λ (m : List ℕ). reel_cell reel.cells reel.lines m d) (returns-clause-memory c ∙ ap (λ (k : ℕ). line_added k c.args.at c.args.bytes.now old) (sym free.next))
-    ∙ cell_after reel.cells reel.lines c.in_ok-n.n c.args.at c.args.bytes.now old free d
+    record {
+      value = search rules;
+      after = λ d. ap (λ (m : List ℕ). reel_cell reel.cells reel.lines m d) (returns-clause-memory c ∙ ap (λ (k : ℕ). line_added k c.args.at c.args.bytes.now old) (sym free.next))
+          ∙ cell_after reel.cells reel.lines c.in_ok-n.n c.args.at c.args.bytes.now old free d;
+      size = search rules;
+      same = search rules;
+    }
