@@ -1,20 +1,28 @@
 -- Blocks are a keep.
-use Rattle.std.specs.Prelude.{◌≡◌, ℕ, ◌<◌, ◌≤◌, Bool, true, false, cond, List, [], ◌∷◌, map, length, take, is_ok, ◌==◌, ◌≢◌, slice_index, refl}
+use Rattle.std.specs.Prelude.{◌≡◌, ℕ, ◌<◌, ◌≤◌, Bool, true, false, cond, ◌&&◌, List, [], ◌∷◌, map, length, take, is_ok, Ok, Err, ◌==◌, ◌≢◌, nat_lt, slice_index, refl}
 use Rattle.std.proofs.Common.{ap, sym, ◌∙◌, inl, inr, arith}
 use Rattle.std.proofs.Math.Path.{fun_ext}
 use Rattle.std.specs.List.{range_with_len, flat_map}
 use Rattle.std.proofs.lemmas.Bool.Decides.{nat_tests}
 use Rattle.std.proofs.lemmas.Bool.{cases_Bool, cond-false, le-ltb, ne_eqb, both_ways}
+use Rattle.stores.specs.declared.fault.SetUpFault.{SetUpFault}
+use Rattle.stores.specs.declared.fault.SetUpFault.TheVariants.{Setting, Size}
 use Rattle.keeps.specs.Groups.{Group, Pair, retired}
 use Rattle.keeps.specs.History.{Put, erased}
 use Rattle.keeps.specs.Laws.{KeepLaws}
 use Rattle.blocks.specs.declared.keep.Blocks.{Blocks}
-use Rattle.blocks.specs.Blocks.{Fitting, blocks_fit, blocks_groups, blocks_pairs, blocks_room, blocks_size}
+use Rattle.blocks.specs.Blocks.{Fitting, blocks_fit, blocks_groups, blocks_pairs, blocks_room, blocks_size, count_in, group_in}
 use Rattle.blocks.specs.Drawing.{drawn_block, drawn_blocks, puts_of}
 
 -- Where the numbers and the memory fit, all groups are there.
 pub all_groups : (groups slots : ℕ) (memory : List ℕ) → Fitting groups slots (length memory) → blocks_groups groups slots memory ≡ groups
 all_groups groups slots memory fits = grind (arith, nat_tests)
+
+-- Of any two tests: where nothing is refused, both are passed.
+fitting_by : (range enough : Bool) → is_ok {T = Unit {0}} {E = SetUpFault} (cond range (cond enough (Ok tt) (Err Size)) (Err Setting)) ≡ true → (range ≡ true) × (enough ≡ true)
+fitting_by true true e = (refl, refl)
+fitting_by true false e = absurd (both_ways false refl e)
+fitting_by false enough e = absurd (both_ways false refl e)
 
 pub fitting : (groups slots long : ℕ) → is_ok (blocks_fit groups slots long) ≡ true → Fitting groups slots long
 fitting groups slots long e =
@@ -33,6 +41,14 @@ fitting_there groups slots memory g there = (grind (arith, nat_tests), fitting g
 -- Of any numbers and memory: there are few groups, and a group with fewer pairs than slots is not retired.
 few_groups : (groups slots : ℕ) (memory : List ℕ) → blocks_groups groups slots memory ≤ 256
 few_groups groups slots memory = grind (arith, nat_tests)
+
+-- The same of any test and any number of groups, and of any block.
+few_by : (fits : Bool) (groups : ℕ) → (fits ≡ true → groups ≤ 256) → cond fits groups 0 ≤ 256
+few_by true groups h = h refl
+few_by false groups h = omega arith
+
+live_group : (inside : Bool) (slots : ℕ) (block : List ℕ) → slots ≤ 65535 → (inside && nat_lt (count_in block) slots) ≡ true → cond inside (group_in slots block) retired ≢ retired
+live_group inside slots block narrow room gone = grind (arith, nat_tests, room, gone)
 
 room_live : (groups slots : ℕ) (memory : List ℕ) (i : ℕ) → blocks_room groups slots memory i ≡ true → blocks_pairs groups slots memory i ≢ retired
 room_live groups slots memory i room gone = grind (arith, nat_tests, room, gone)
@@ -69,11 +85,15 @@ numbers_of b = b.groups ∷ (b.slots ∷ [])
 abbrev pub bytes_of : Blocks → List ℕ
 bytes_of b = take (blocks_size b.groups b.slots) b.memory.now
 
-pub blocks_laws : KeepLaws groups_of pairs_of room_of drawn_blocks
-blocks_laws =
+-- Over any type that has the numbers and memory.
+pub blocks_laws_of : {B : Type 0} (groups slots : B → ℕ) (memory : B → List ℕ) → KeepLaws (λ b. blocks_groups (groups b) (slots b) (memory b)) (λ b. blocks_pairs (groups b) (slots b) (memory b)) (λ b. blocks_room (groups b) (slots b) (memory b)) drawn_blocks
+blocks_laws_of groups slots memory =
     record {
-      few = λ b. few_groups b.groups b.slots b.memory.now;
+      few = λ b. few_groups (groups b) (slots b) (memory b);
       outside = λ b i h. cond-false _ _ _ (le-ltb i _ h);
-      live_only = λ b i. room_live b.groups b.slots b.memory.now i;
+      live_only = λ b i. room_live (groups b) (slots b) (memory b) i;
       forgets = λ numbers puts gone. ap (λ (f : ℕ → List ℕ). flat_map f (range_with_len 0 (slice_index numbers 0))) (fun_ext (block_erased (slice_index numbers 1) gone puts));
     }
+
+pub blocks_laws : KeepLaws groups_of pairs_of room_of drawn_blocks
+blocks_laws = blocks_laws_of (λ b. b.groups) (λ b. b.slots) (λ b. b.memory.now)

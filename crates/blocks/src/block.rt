@@ -1,4 +1,5 @@
 // The block of one group.
+// (Records by their places, and no arrays: a put writes one record, and of what arrays lend for writing only the length is known.)
 ghost use Rattle.std.specs.Prelude.{◌≡◌, ◌+◌, length, is_some, if◌then◌else◌};
 ghost use Rattle.keeps.specs.Groups.{in_slot};
 ghost use Rattle.blocks.specs.Blocks.{block_gone, block_put, block_size, free_slot, pairs_in, used_in};

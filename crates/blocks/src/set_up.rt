@@ -11,8 +11,7 @@ use crate::memory::fit;
 use stores::fault::SetUpFault;
 
 // Zeroes the bytes that so many groups of so many slots need, and no others.
-// (Every make sets up so, by its own numbers and its own test: one generic function would take the test and the size as
-// closures and say no more.)
+// (Every make sets up so, by its own numbers and its own test: what they share is the two lines below.)
 pub fn clear(memory: &mut [u8], groups: u32, slots: u32) -> Result<(), SetUpFault>
     ensures value { result ≡ blocks_fit groups slots (length memory.old) }
     ensures after { memory.new ≡ (if is_ok result then zeroed (blocks_size groups slots) memory.old else memory.old) }

@@ -35,17 +35,21 @@ pub fn strikes_for_good(rt: &impl Abort, keep: &mut impl Keep) {
     assert!(rt; !keep.has_room(0));
 }
 
-// Puts one pair into group 0 of an empty keep, and strikes the group.
-pub fn puts_and_strikes(rt: &impl Abort, keep: &mut impl Keep, cell: u32, locator: u64) {
-    assert_eq!(rt; keep.put(0, cell, locator), Ok(0));
-    assert_eq!(rt; keep.strike(0), Ok(1));
+// Puts one pair into group 0 of a keep, strikes the group, and gives what the two calls answered.
+pub fn puts_and_strikes(
+    keep: &mut impl Keep,
+    cell: u32,
+    locator: u64,
+) -> [Result<u32, KeepFault>; 2] {
+    let put = keep.put(0, cell, locator);
+    let struck = keep.strike(0);
+    [put, struck]
 }
 
-// Puts another pair into group 0 of each of two empty keeps, and strikes the group in both.
-pub fn struck_in_both<K: Keep>(rt: &impl Abort, one: &mut K, other: &mut K) {
-    assert_eq!(rt; one.put(0, 5, 700), Ok(0));
-    assert_eq!(rt; other.put(0, 6, u64::MAX), Ok(0));
-    let (first, second) = strike_both(one, other, 0);
-    assert_eq!(rt; first, Ok(1));
-    assert_eq!(rt; second, Ok(1));
+// Puts another pair into group 0 of each of two keeps, strikes the group in both, and gives what the four calls answered.
+pub fn struck_in_both<K: Keep>(one: &mut K, other: &mut K) -> [Result<u32, KeepFault>; 4] {
+    let put = one.put(0, 5, 700);
+    let other_put = other.put(0, 6, u64::MAX);
+    let (struck, other_struck) = strike_both(one, other, 0);
+    [put, other_put, struck, other_struck]
 }

@@ -41,11 +41,12 @@ fn a_struck_block_is_all_zeros(rt: HostRuntime) -> Result<(), Fail> {
 }
 
 // The memory once a group with this one pair was struck.
+// (Each make has its own, and its own two tests below: each lends its own memory for the calls.)
 fn struck_with(rt: &impl Abort, byte: u8, cell: u32, locator: u64) -> Result<[u8; 16], Fail> {
     let mut memory = [byte; 16];
     {
         let mut keep = Blocks::set_up(&mut memory, 1, 1)?;
-        puts_and_strikes(rt, &mut keep, cell, locator);
+        assert_eq!(rt; puts_and_strikes(&mut keep, cell, locator), [Ok(0), Ok(1)]);
     }
     Ok(memory)
 }
@@ -66,13 +67,17 @@ fn two_struck_keeps_hold_equal_bytes(rt: HostRuntime) -> Result<(), Fail> {
     {
         let mut first = Blocks::set_up(&mut one, 1, 1)?;
         let mut second = Blocks::set_up(&mut other, 1, 1)?;
-        struck_in_both(&rt, &mut first, &mut second);
+        assert_eq!(rt;
+            struck_in_both(&mut first, &mut second),
+            [Ok(0), Ok(0), Ok(1), Ok(1)]
+        );
     }
     assert_eq!(rt; one, other);
     Ok(())
 }
 
 // Whether so many groups of so many slots can be set up in 60 bytes.
+// (Each make has its own: it lends its own memory for the call.)
 fn set_up(groups: u32, slots: u32) -> Result<(), SetUpFault> {
     let mut memory = [0; 60];
     Blocks::set_up(&mut memory, groups, slots)?;

@@ -61,6 +61,15 @@ chunked at m n xs e =
     ∙ take-take 14 (n * 14 - j * 14) (drop (j * 14) (drop at m)) (omega arith)
     ∙ ap (take 14) (drop-drop (j * 14) at m))
 
+module _ (at : ℕ) (m : List ℕ) (n : ℕ) where
+  length-rows : length (rows at m n) ≡ n
+  unfolding rows
+  length-rows = length-map-range_with_len (line at m) 0 n
+
+  get_d_rows : (j : ℕ) (d : List ℕ) → j < n → get_or (rows at m n) j d ≡ line at m j
+  unfolding rows
+  get_d_rows j d h = get_or-map-range_with_len (line at m) 0 n j j d h (omega arith)
+
 -- Lines that agree.
 pub rows_same : (f h : ℕ → List ℕ) (n : ℕ) → ((j : ℕ) → j < n → f j ≡ h j) → map f (range_with_len 0 n) ≡ map h (range_with_len 0 n)
 rows_same f h n e =

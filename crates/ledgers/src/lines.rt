@@ -50,6 +50,7 @@ pub(crate) fn locator_in(
 }
 
 // Writes one line over its bytes.
+// (Group, cell and locator stand together nowhere else in the code: no struct for one place.)
 pub(crate) fn write_line(memory: &mut [u8], at: usize, group: u16, cell: u32, locator: u64)
     requires { at + 14 ≤ length memory.old }
     ensures { memory.new ≡ overwritten at (line_of group cell locator) memory.old }

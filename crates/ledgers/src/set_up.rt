@@ -10,8 +10,7 @@ use crate::ledger::Ledger;
 use stores::fault::SetUpFault;
 
 // Zeroes the bytes of a ledger of so many groups and lines, and no others.
-// (Every make sets up so, by its own numbers and its own test: one generic function would take the test and the size as
-// closures and say no more.)
+// (Every make sets up so, by its own numbers and its own test: what they share is the two lines below.)
 pub fn clear(memory: &mut [u8], groups: u32, lines: u32) -> Result<(), SetUpFault>
     ensures value { result ≡ ledger_fit groups lines (length memory.old) }
     ensures after { memory.new ≡ (if is_ok result then zeroed (ledger_size groups lines) memory.old else memory.old) }
