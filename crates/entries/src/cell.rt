@@ -22,6 +22,7 @@ fn keyed_entry<K: Key>(rest: &[u8]) -> Option<Entry>
     requires { length rest.now ≡ 22 }
     ensures { result ≡ keyed_entry K.Key.admissible rest.now }
 {
+    // (Not `try_from`: it would add a refusal that cannot be.)
     let mut key = [0; 12];
     key.copy_from_slice(&rest[0..12]);
     if !K::admits(&key) {

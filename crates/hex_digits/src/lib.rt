@@ -29,7 +29,7 @@ fn byte(high: u8, low: u8) -> Option<u8>
 }
 
 // The bytes that digits write; nothing for an odd number of them, or where one is no digit. The kit's `hex` tells want of
-// memory by a variant of its own, and no code here makes an `AllocError` by hand.
+// memory by a variant of its own, and no code in this crate makes an `AllocError` by hand.
 pub fn from_digits(heap: Global, text: &[u8]) -> Result<Option<Vec<u8>>, AllocError>
     ensures { IfOk result (λ v. option_map vec_items v ≡ bytes_of text.now) }
 {
@@ -39,10 +39,10 @@ pub fn from_digits(heap: Global, text: &[u8]) -> Result<Option<Vec<u8>>, AllocEr
     }
     let mut bytes = Vec::new(heap);
     for [high, low] in pairs {
-        let Some(byte) = byte(*high, *low) else {
+        let Some(written) = byte(*high, *low) else {
             return Ok(None);
         };
-        bytes.push(byte)?;
+        bytes.push(written)?;
     }
     Ok(Some(bytes))
 }

@@ -74,6 +74,7 @@ fn on_keep<W: Write>(
         groups,
         size,
     } = wanted;
+    // (Each arm makes a keep of another type; what follows is one generic function.)
     match (make, beginning) {
         (Make::Blocks, Beginning::SetUp) => {
             play_made(session, number, Blocks::set_up(memory, groups, size))

@@ -1,8 +1,11 @@
 // The lines before a keep stands: how much memory there is, what it holds, and which keep is wanted in it.
+ghost use Rattle.keepshow.specs.Starts.{make_of};
+
 use commands::command::{CommandFault, read_last_bytes};
 use lines::fault::LineFault;
 use lines::field::Fields;
 use lines::input::check_length;
+use lines::parse::FromField;
 use std::alloc::Global;
 
 // The largest memory that may be asked for.
@@ -46,19 +49,22 @@ pub fn read_memory(line: &[u8]) -> Result<usize, LineFault> {
     Ok(bytes as usize)
 }
 
-fn read_make(fields: &mut Fields) -> Result<Make, LineFault> {
-    let word = fields.text()?;
-    match word.text {
-        b"blocks" => Ok(Make::Blocks),
-        b"ledger" => Ok(Make::Ledger),
-        _ => Err(word.wrong()),
+impl FromField for Make {
+    ghost meaning = { make_of };
+
+    fn from_field(text: &[u8]) -> Option<Make> {
+        match text {
+            b"blocks" => Some(Make::Blocks),
+            b"ledger" => Some(Make::Ledger),
+            _ => None,
+        }
     }
 }
 
 fn read_wanted(fields: &mut Fields, beginning: Beginning) -> Result<Wanted, LineFault> {
     Ok(Wanted {
         beginning,
-        make: read_make(fields)?,
+        make: fields.value()?,
         groups: fields.value()?,
         size: fields.last_value()?,
     })

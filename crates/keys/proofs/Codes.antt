@@ -16,6 +16,9 @@ code_from ended place (b ∷ bs) = go_on (after_byte b ended place) (λ e. code_
 pub refused_from : (ended : Bool) (place b : ℕ) (bs : List ℕ) → None ≡ after_byte b ended place → code_from ended place (b ∷ bs) ≡ false
 refused_from ended place b bs h = ap (λ o. go_on o (λ e. code_from e (place + 1) bs)) (sym h)
 
+pub accepted_from : (ended e : Bool) (place b : ℕ) (bs : List ℕ) → after_byte b ended place ≡ Some e → code_from ended place (b ∷ bs) ≡ code_from e (place + 1) bs
+accepted_from ended e place b bs h = ap (λ o. go_on o (λ e. code_from e (place + 1) bs)) h
+
 pads : (zero-byte : Bool) (f : Bool → Bool) (p : Bool) → f true ≡ p → go_on (cond (zero-byte && true) (Some true) None) f ≡ (zero-byte && p)
 pads true f p h = h
 pads false f p h = refl

@@ -50,14 +50,11 @@ pub(crate) fn is_code(bytes: &[u8]) -> bool
     if bytes.len() != 12 {
         return false;
     }
-    let mut ended = false;
-    for (place, byte) in bytes.iter().enumerate() {
-        match after(*byte, ended, place) {
-            Some(ended_now) => ended = ended_now,
-            None => return false,
-        }
-    }
-    true
+    bytes
+        .iter()
+        .enumerate()
+        .try_fold(false, |ended, (place, byte)| after(*byte, ended, place))
+        .is_some()
 }
 
 impl DrawingCode {

@@ -31,6 +31,7 @@ impl Key for DrawingCode {
         if !is_code(bytes) {
             return Err(KeyFault::Inadmissible);
         }
+        // (Not `try_from`: it would add a refusal that cannot be.)
         let mut own = [0; 12];
         own.copy_from_slice(bytes);
         Ok(DrawingCode { bytes: own })

@@ -14,6 +14,7 @@ pub enum State {
 }
 
 // What is printed for a line that is accepted.
+// (No `Display`: a path is printed behind the caller's key, and nothing is printed for a line that only goes on.)
 #[derive(Drop)]
 pub enum Reply {
     Nothing,

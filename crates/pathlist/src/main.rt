@@ -11,6 +11,7 @@ use std::io;
 use std::io::{BufWriter, Write};
 
 // The key as it was written, and its cells.
+// (No `Display`: the key is the caller's own text, and the answer does not hold it.)
 fn print_path(out: &mut impl Write, key: &[u8], cells: &[u32]) -> io::Result<()> {
     out.write_all(key)?;
     for cell in cells {

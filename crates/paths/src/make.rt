@@ -36,7 +36,7 @@ fn check_coefficients(shape: &Shape, coefficients: &[Coefficient]) -> Result<(),
     let matched = wanted.min(coefficients.len());
     match first_unfit(&coefficients[..matched]) {
         Some(level) => Err(RuleFault::Coefficient(level)),
-        None if matched == wanted.max(coefficients.len()) => Ok(()),
+        None if wanted == coefficients.len() => Ok(()),
         None => Err(RuleFault::Coefficient(matched)),
     }
 }

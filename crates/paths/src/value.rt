@@ -2,7 +2,7 @@
 ghost use Rattle.std.specs.Prelude.{◌≡◌, ◌*◌, ◌<◌, ◌≤◌, true};
 ghost use Rattle.trees.specs.Geometry.{span as span_of};
 ghost use Rattle.trees.specs.Paths.{hashed, thin_range, bits_of, value_at, node_below};
-ghost use Rattle.trees.specs.Settings.{coefficient_fits, log_two, scheme_takes};
+ghost use Rattle.trees.specs.Settings.{coefficient_fits, log_two};
 ghost use Rattle.trees.specs.declared.settings.Scheme.TheVariants.{Trie};
 ghost use Rattle.paths.specs.Rules.{settings_of};
 ghost use Rattle.paths.specs.Tries.{in_32_bits};

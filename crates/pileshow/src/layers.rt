@@ -12,6 +12,7 @@ pub trait Layers: Store + Drop {
 }
 
 // The name of a layer and a letter for each of its cells.
+// (No `Display`: what it prints has to be read from the store, which may refuse.)
 fn show(out: &mut impl Write, name: &str, store: &impl Store) -> io::Result<()> {
     write!(out, "{name} ")?;
     for cell in 0..store.size() {

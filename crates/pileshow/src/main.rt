@@ -34,6 +34,7 @@ fn read_command(heap: Global, line: &[u8]) -> Result<Command, CommandFault> {
 }
 
 // One command.
+// (Heap and output beside one another: the session lends its lines meanwhile.)
 fn play_line<W: Write, S: Store>(
     heap: Global,
     out: &mut W,
@@ -92,6 +93,7 @@ fn on_reel<W: Write>(session: &mut Session<W>, size: ReelSize) -> Result<(), Sto
     Ok(())
 }
 
+// (The parts of `Pile::Join`, each by its name.)
 fn on_join<W: Write>(
     session: &mut Session<W>,
     cells: u32,

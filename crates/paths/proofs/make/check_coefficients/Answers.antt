@@ -30,8 +30,8 @@ returns-in-None c =
     let cs = c.args.coefficients.now in
     let wanted = c.levels_with_coefficients-wanted.result in
     let n = c.min-matched.result in
-    let e : n ≡ wanted = omega (arith, c.min-matched.ensures, c.max.ensures) in
-    let none = lowest_is_behind cs wanted n unit (omega arith) (omega arith) c.in-None.ensures ∙ behind cs wanted n wanted e ∙ no_extra cs wanted (omega (arith, c.min-matched.ensures, c.max.ensures)) in
+    let e : n ≡ wanted = omega (arith, c.min-matched.ensures) in
+    let none = lowest_is_behind cs wanted n unit (omega arith) (omega arith) c.in-None.ensures ∙ behind cs wanted n wanted e ∙ no_extra cs wanted (omega (arith, c.min-matched.ensures)) in
     sym (ap coefficient_answer none) ∙ told cs wanted _ c.levels_with_coefficients-wanted.ensures
 
 pub returns-in-None-2 : goal.returns-in-None-2
@@ -42,7 +42,7 @@ returns-in-None-2 c =
     let left : lowest_unfit n (wanted - n) (drop n cs) ≡ Some n =
     elim (cases_lt n wanted) [
       | inl low ↦ missing cs n wanted low (omega (arith, c.min-matched.ensures))
-      | inr all ↦ (let e : n ≡ wanted = omega (arith, c.min-matched.ensures) in behind cs wanted n wanted e ∙ extra cs wanted (omega (arith, c.min-matched.ensures, c.max.ensures)) ∙ ap Some (sym e))
+      | inr all ↦ (let e : n ≡ wanted = omega (arith, c.min-matched.ensures) in behind cs wanted n wanted e ∙ extra cs wanted (omega (arith, c.min-matched.ensures)) ∙ ap Some (sym e))
     ] in
     let there = lowest_is_behind cs wanted n unit (omega arith) (omega arith) c.in-None-2.ensures ∙ left in
     sym (ap coefficient_answer there) ∙ told cs wanted _ c.levels_with_coefficients-wanted.ensures
