@@ -76,9 +76,6 @@ impl DrawingCode {
         ensures text { code_text (take result self.now.bytes) ≡ true }
         ensures rest { self.now.bytes ≡ padded (take result self.now.bytes) }
     {
-        match first_zero(&self.bytes) {
-            Some(place) => place,
-            None => 12,
-        }
+        first_zero(&self.bytes).unwrap_or(12)
     }
 }

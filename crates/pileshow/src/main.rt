@@ -118,6 +118,7 @@ fn on_join<W: Write>(
 }
 
 fn on_pile<W: Write>(session: &mut Session<W>, pile: Pile) -> Result<(), Stop> {
+    // (A `match` of the enum that was read: each arm has parts of its own.)
     match pile {
         Pile::Plate { cells, shown } => on_plate(session, cells, shown),
         Pile::Reel { reel } => on_reel(session, reel),
