@@ -1,6 +1,6 @@
 // A line that asks a store: `write CELL HEX`, `read CELL` or `take CELL`.
 ghost use Rattle.std.specs.Prelude.{◌≡◌, vec_items};
-ghost use Rattle.lines.specs.Readers.{numbered};
+ghost use Rattle.lines.specs.Readers.{OfLine, numbered};
 ghost use Rattle.commands.specs.Commands.{Barring, asked, command_of, digits_in, last_bytes, rest_of, told, verb_of};
 ghost use Rattle.commands.specs.declared.command.CommandFault.TheVariants.{Line as InLine, Memory as NoMemory};
 
@@ -51,7 +51,8 @@ fn read_digits(heap: Global, field: &Field) -> Result<Vec<u8>, CommandFault>
 
 // Bytes in hexadecimal digits, at least one byte, and then no more fields.
 pub fn read_last_bytes(heap: Global, fields: &mut Fields) -> Result<Vec<u8>, CommandFault>
-    ensures { Barring result (told vec_items result ≡ last_bytes fields.old) }
+    ensures value { Barring result (told vec_items result ≡ last_bytes fields.old) }
+    ensures line { OfLine fields.old × OfLine fields.new }
 {
     let field = fields.text()?;
     let bytes = read_digits(heap, &field)?;

@@ -72,6 +72,7 @@ impl DrawingCode {
     }
 
     // How long its text is: the rest of its bytes are padding.
+    #[tactic(auto, using(crate::proofs::TextEnds::text_ends_there, crate::proofs::TextEnds::rest_is_padding))]
     pub fn text_len(&self) -> usize
         ensures text { code_text (take result self.now.bytes) ≡ true }
         ensures rest { self.now.bytes ≡ padded (take result self.now.bytes) }

@@ -1,7 +1,7 @@
-mod Blank
-mod Drawn
-mod Erasing
-mod Live
-mod Putting
-mod Rows
-mod Striking
+pub mod Blank
+pub mod Drawn
+pub mod Erasing
+pub mod Live
+pub mod Putting
+pub mod Rows
+pub mod Striking

@@ -8,7 +8,7 @@ use Rattle.keeps.specs.Groups.{Pair, as_u32, check_answer, put_answer, strike_an
 use Rattle.keeps.specs.declared.fault.KeepFault.{KeepFault}
 use Rattle.keeps.specs.declared.fault.KeepFault.TheVariants.{NoSlot}
 use Rattle.keeps.proofs.Checked.{live_checked}
-use Rattle.ledgers.specs.LedgerLaws.{all_groups}
+use Rattle.ledgers.specs.LedgerLaws.{all_groups, fitting}
 use Rattle.ledgers.specs.Ledgers.{Fitting, ledger_groups, ledger_live, ledger_pairs, ledger_room, ledger_state, pairs_of, rows, used}
 
 -- Group g is there and live.
@@ -19,17 +19,24 @@ pub record LiveIn (groups lines : ℕ) (memory : List ℕ) (g : ℕ) : Type 0 wh
   pub state : get_or memory g 0 ≡ 0
 
 module _ (groups lines : ℕ) (m : List ℕ) (g : ℕ) where
-  pub state_is : Fitting groups lines (length m) → g < ledger_groups groups lines m → ledger_state groups lines m g ≡ get_or m g 0
-  state_is fits h = get_or-take (ledger_groups groups lines m) m g 1 h ∙ get_or_default m g 1 0 (omega (arith, fits.enough, all_groups groups lines m fits))
+  -- Where there is a group, the numbers are in range and memory is long enough.
+  pub fits_there : g < ledger_groups groups lines m → Fitting groups lines (length m)
+  fits_there h = fitting groups lines (length m) (grind (arith, nat_tests))
+
+  pub state_is : g < ledger_groups groups lines m → ledger_state groups lines m g ≡ get_or m g 0
+  state_is h = get_or-take (ledger_groups groups lines m) m g 1 h ∙ get_or_default m g 1 0 (omega (arith, (fits_there h).enough, all_groups groups lines m (fits_there h)))
+
+  pub live_in : g < ledger_groups groups lines m → get_or m g 0 ≡ 0 → LiveIn groups lines m g
+  live_in h state = record { fits = fits_there h; there = h; low = omega (arith, h, all_groups groups lines m (fits_there h)); state = state }
 
   -- What a check that passed says.
-  pub live_in : Fitting groups lines (length m) → check_answer (ledger_groups groups lines m) (ledger_pairs groups lines m) g ≡ Ok tt → LiveIn groups lines m g
-  live_in fits passed =
+  pub live_passed : check_answer (ledger_groups groups lines m) (ledger_pairs groups lines m) g ≡ Ok tt → LiveIn groups lines m g
+  live_passed passed =
       let l = live_checked (ledger_groups groups lines m) (ledger_pairs groups lines m) g passed in
-      record { fits = fits; there = l.there; low = omega (arith, l.there, all_groups groups lines m fits); state = grind (arith, nat_tests, l.holds, state_is fits l.there) }
+      live_in l.there (grind (arith, nat_tests, l.holds, state_is l.there))
 
   pub is_live : LiveIn groups lines m g → ledger_live groups lines m g ≡ true
-  is_live l = grind (arith, nat_tests, l.state, state_is l.fits l.there)
+  is_live l = grind (arith, nat_tests, l.state, state_is l.there)
 
   module _ {A : Type 0} (gives : List Pair → Result A KeepFault) where
     pub answer_live : LiveIn groups lines m g → with_live (ledger_groups groups lines m) (ledger_pairs groups lines m) g gives ≡ gives (pairs_of g (rows (groups + 4) m (used groups lines m)))

@@ -1,17 +1,18 @@
 -- The lines of a ledger: their numbers, and the pairs that they have for a group.
-use Rattle.std.proofs.Common.{◌≡◌, ℕ, zero, suc, ◌+◌, ◌-◌, ◌*◌, ◌^◌, ◌<◌, ◌≤◌, Bool, eqb, List, [], ◌∷◌, ◌++◌, map, length, get_or, take, drop, Some, None, Option, sym, refl, ap, ◌∙◌, inl, inr, suc-mul, zero-mul, arith, length-append}
+use Rattle.std.proofs.Common.{◌≡◌, ℕ, ◌+◌, ◌*◌, ◌^◌, ◌<◌, ◌≤◌, Bool, eqb, List, [], ◌∷◌, ◌++◌, map, length, get_or, take, drop, Some, None, Option, sym, refl, ap, ◌∙◌, inl, inr, arith, length-append}
 use Rattle.std.specs.Borrow.{Bor}
 use Rattle.std.specs.List.{filter, range_with_len, slice_get}
 use Rattle.std.specs.Option.{option_map}
 use Rattle.std.specs.Simd.{first_chunks}
 use Rattle.std.proofs.lemmas.List.FromFn.{fill_by_all, get_or-map-range_with_len, length-map-range_with_len}
-use Rattle.std.proofs.lemmas.List.{append_assoc, drop_at, drop-drop, drop-take, take_all, take_at, take-take}
+use Rattle.std.proofs.lemmas.List.{append_assoc, drop_at, take_all, take_at}
 use Rattle.std.proofs.lemmas.Option.{slice_get-map}
 use Rattle.std.proofs.lemmas.Bool.{cases_Bool}
 use Rattle.octets.specs.Numbers.{big_endian, number_at, spelled}
 use Rattle.octets.specs.Overwriting.{overwritten}
 use Rattle.octets.proofs.Numbers.{length-big_endian, spelled_whole}
 use Rattle.octets.proofs.Overwrites.{overwritten_two}
+use Rattle.octets.proofs.Parts.{chunk_in, length_chunks}
 use Rattle.ledgers.specs.Ledgers.{line, line_of, pair_on, pairs_of, rows}
 
 -- Whether a line is the group's.
@@ -37,29 +38,10 @@ pair_at g lines found slot e =
     ∙ sym (slice_get-map pair_on (filter (own g) lines) slot)
     ∙ ap (λ ps. slice_get ps slot) (sym (pairs_filtered g lines))
 
--- Parts of one width, cut from bytes one behind the other.
-length_chunks : (wide n : ℕ) (xs : List ℕ) → length (first_chunks wide n xs) ≡ n
-length_chunks wide zero xs = refl
-length_chunks wide (suc n) xs = omega (arith, length_chunks wide n (drop wide xs))
-
-chunk_at : (wide n : ℕ) (xs : List ℕ) (j : ℕ) → j < n → get_or (first_chunks wide n xs) j [] ≡ take wide (drop (j * wide) xs)
-chunk_at wide zero xs j h = absurd (omega arith)
-chunk_at wide (suc n) xs zero h = ap (λ k. take wide (drop k xs)) (sym (zero-mul wide))
-chunk_at wide (suc n) xs (suc j) h =
-    let next : wide + j * wide ≡ suc j * wide = sym (suc-mul j wide ∙ omega arith) in
-    chunk_at wide n (drop wide xs) j (omega arith) ∙ ap (take wide) (drop-drop (j * wide) wide xs) ∙ ap (λ k. take wide (drop k xs)) next
-
+-- The lines as parts of the memory.
 pub chunked : (at : ℕ) (m : List ℕ) (n : ℕ) (xs : List ℕ) → xs ≡ take (n * 14) (drop at m) → first_chunks 14 n xs ≡ rows at m n
 unfolding rows
-chunked at m n xs e =
-    fill_by_all (line at m) (first_chunks 14 n xs) n [] (length_chunks 14 n xs)
-    (λ j l.
-    let rest : n * 14 ≡ j * 14 + (n * 14 - j * 14) = omega arith in
-    chunk_at 14 n xs j l
-    ∙ ap (λ ys. take 14 (drop (j * 14) ys)) (e ∙ ap (λ k. take k (drop at m)) rest)
-    ∙ ap (take 14) (drop-take (j * 14) (n * 14 - j * 14) (drop at m))
-    ∙ take-take 14 (n * 14 - j * 14) (drop (j * 14) (drop at m)) (omega arith)
-    ∙ ap (take 14) (drop-drop (j * 14) at m))
+chunked at m n xs e = fill_by_all (line at m) (first_chunks 14 n xs) n [] (length_chunks 14 n xs) (chunk_in 14 at n m xs e)
 
 module _ (at : ℕ) (m : List ℕ) (n : ℕ) where
   length-rows : length (rows at m n) ≡ n

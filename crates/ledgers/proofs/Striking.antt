@@ -1,5 +1,5 @@
 -- A strike: what it leaves in the memory, in the groups and in what is drawn.
-use Rattle.std.proofs.Common.{◌≡◌, ℕ, ◌+◌, ◌*◌, ◌^◌, ◌<◌, ◌≤◌, min, Bool, true, false, cond, eqb, ltb, List, [], ◌∷◌, map, length, get_or, take, drop, is_ok, subst, sym, refl, ap, ◌∙◌, inl, inr, arith, length-take}
+use Rattle.std.proofs.Common.{◌≡◌, ℕ, ◌+◌, ◌*◌, ◌^◌, ◌<◌, ◌≤◌, min, Bool, true, false, cond, eqb, ltb, List, [], ◌∷◌, map, length, get_or, take, drop, is_ok, sym, refl, ap, ◌∙◌, inl, inr, arith, length-take}
 use Rattle.std.specs.List.{range_with_len}
 use Rattle.std.proofs.lemmas.List.FromFn.{fill_by_all, get_or-map-range_with_len}
 use Rattle.std.proofs.lemmas.List.{drop-set-lt, drop-take, get_or-set_other, get_or-set_same, get_or-take, length-set}
@@ -9,7 +9,7 @@ use Rattle.octets.proofs.Numbers.{spelled_whole}
 use Rattle.keeps.specs.Groups.{changed, live, retired}
 use Rattle.keeps.specs.History.{Put, erased}
 use Rattle.ledgers.specs.LedgerLaws.{all_groups, state_past}
-use Rattle.ledgers.specs.Ledgers.{Fitting, drawn_ledger, drawn_line, drawn_state, ledger_fit, ledger_groups, ledger_live, ledger_pairs, ledger_size, ledger_struck, line, line_of, lines_struck, no_put, pair_on, pairs_of, put_line, rows, struck_line, used}
+use Rattle.ledgers.specs.Ledgers.{drawn_ledger, drawn_line, drawn_state, ledger_fit, ledger_groups, ledger_live, ledger_pairs, ledger_size, ledger_struck, line, line_of, lines_struck, no_put, pair_on, pairs_of, put_line, rows, struck_line, used}
 use Rattle.ledgers.proofs.Drawn.{DrawnIn, from_drawn, to_drawn}
 use Rattle.ledgers.proofs.Erasing.{front_kept, length-lines_struck, line_struck}
 use Rattle.ledgers.proofs.Live.{LiveIn, state_is}
@@ -67,21 +67,18 @@ module _ (groups lines : ℕ) (old : List ℕ) (g : ℕ) (alive : LiveIn groups 
   pub groups_kept : ledger_groups groups lines new ≡ ledger_groups groups lines old
   groups_kept = groups_new ∙ sym groups_old
 
-  fits_new : Fitting groups lines (length new)
-  fits_new = let P : ℕ → Type 0 = Fitting groups lines in subst P (sym length_new) alive.fits
-
   dead_now : ledger_live groups lines new g ≡ false
-  dead_now = ap (λ x. eqb x 0) (state_is groups lines new g fits_new (omega (arith, groups_new, alive.low)) ∙ state_new g alive.low ∙ cond-true _ _ _ (eq-eqb g g refl))
+  dead_now = ap (λ x. eqb x 0) (state_is groups lines new g (omega (arith, groups_new, alive.low)) ∙ state_new g alive.low ∙ cond-true _ _ _ (eq-eqb g g refl))
 
   live_apart : (i : ℕ) → (g ≡ i → ⊥) → ledger_live groups lines new i ≡ ledger_live groups lines old i
   live_apart i ne =
       elim (cases_lt i groups) [
         | inl h ↦
             ap (λ x. eqb x 0)
-            (state_is groups lines new i fits_new (omega (arith, groups_new))
+            (state_is groups lines new i (omega (arith, groups_new))
             ∙ state_new i h
             ∙ cond-false _ _ _ (ne_eqb g i ne)
-            ∙ sym (state_is groups lines old i alive.fits (omega (arith, groups_old))))
+            ∙ sym (state_is groups lines old i (omega (arith, groups_old))))
         | inr h ↦ ap (λ x. eqb x 0) (state_past groups lines new i (omega (arith, groups_new)) ∙ sym (state_past groups lines old i (omega (arith, groups_old))))
       ]
 

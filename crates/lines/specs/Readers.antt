@@ -2,7 +2,7 @@
 use Rattle.std.specs.Prelude.{◌≡◌, ℕ, ◌+◌, ◌-◌, ◌^◌, min, Bool, true, false, List, [], ◌∷◌, Some, None, Option}
 use Rattle.std.specs.Option.{option_map}
 use Rattle.lines.specs.declared.field.Field.{Field}
-use Rattle.lines.specs.Text.{fields_of}
+use Rattle.lines.specs.Text.{fields_of, lines_of}
 
 abbrev pub first_of : List (List ℕ) → Option (List ℕ)
 first_of [] = None
@@ -38,6 +38,14 @@ next_number n = min (n + 1) (2 ^ 32 - 1)
 abbrev pub numbered : Field → ℕ × List ℕ
 numbered f = (f.number, f.text.now)
 
+-- what is left of some line: so no space stands in a field that is left, also where the reader was lent
+abbrev pub OfLine : Unread → Type 0
+OfLine u = (rest : Option (List ℕ)) × (u.left ≡ fields_of_rest rest)
+
+-- the lines that are left of some input: so no byte 10 stands in one
+abbrev pub OfInput : List (List ℕ) → Type 0
+OfInput lines = (rest : List ℕ) × (lines ≡ lines_of rest)
+
 -- the next field, if one is left
 abbrev pub next_field : Unread → Option (ℕ × List ℕ)
 next_field u = option_map (λ t. (next_number u.read, t)) (first_of u.left)
@@ -53,4 +61,4 @@ onward u = record { read = read_on u.read u.left; left = past_first u.left }
 
 -- one step: the next field, and what is left then
 abbrev pub GivesField : Unread → Option Field → Unread → Type 0
-GivesField u f v = (option_map numbered f ≡ next_field u) × (v ≡ onward u)
+GivesField u f v = (option_map numbered f ≡ next_field u) × (v ≡ onward u) × OfLine u × OfLine v

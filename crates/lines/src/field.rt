@@ -2,7 +2,7 @@
 ghost use Rattle.std.specs.Prelude.{◌≡◌, ◌∷◌, length};
 ghost use Rattle.std.specs.Iterator.{at_most};
 ghost use Rattle.std.specs.Option.{option_map};
-ghost use Rattle.lines.specs.Readers.{GivesField, all_of, fields_of_rest, next_number, none_left};
+ghost use Rattle.lines.specs.Readers.{GivesField, OfLine, all_of, fields_of_rest, next_number, none_left};
 ghost use Rattle.lines.specs.Text.{fields_of};
 
 use crate::cut::cut;
@@ -59,7 +59,8 @@ impl<'a> Fields<'a> {
 
     // Is no field left?
     pub(crate) fn is_done(&self) -> bool
-        ensures { result ≡ none_left self.now.left }
+        ensures value { result ≡ none_left self.now.left }
+        ensures line { OfLine self.now }
     {
         self.rest.is_none()
     }

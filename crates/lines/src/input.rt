@@ -3,7 +3,7 @@ ghost use Rattle.std.specs.Prelude.{◌≡◌, [], ◌∷◌, MatchOption};
 ghost use Rattle.std.specs.Iterator.{YieldsFirstRef, item_count};
 ghost use Rattle.std.specs.Option.{option_map};
 ghost use Rattle.lines.specs.Fields.{length_check};
-ghost use Rattle.lines.specs.Readers.{first_of, past_first};
+ghost use Rattle.lines.specs.Readers.{OfInput, first_of, past_first};
 ghost use Rattle.lines.specs.Text.{lines_of};
 
 use crate::cut::cut;
@@ -63,8 +63,11 @@ impl<'a> Lines<'a> {
     pub fn next_line(&mut self) -> Option<&'a [u8]>
         ensures line { option_map (λ x. x.now) result ≡ first_of self.old }
         ensures left { self.new ≡ past_first self.old }
+        ensures input { OfInput self.old × OfInput self.new }
     {
-        self.next()
+        let (line, rest) = first_line(self.rest)?;
+        self.rest = rest;
+        Some(line)
     }
 }
 
@@ -76,9 +79,7 @@ impl<'a> Iterator for Lines<'a> {
     ghost remaining = { item_count (λ lines. lines) };
 
     fn next(&mut self) -> Option<&'a [u8]> {
-        let (line, rest) = first_line(self.rest)?;
-        self.rest = rest;
-        Some(line)
+        self.next_line()
     }
 }
 

@@ -3,7 +3,7 @@ ghost use Rattle.std.specs.Prelude.{◌≡◌, ℕ, ◌≤◌, IfOk, List, Optio
 ghost use Rattle.std.specs.Result.{result_map_both};
 ghost use Rattle.std.specs.Str.{bytes_eq};
 ghost use Rattle.lines.specs.Fields.{and_end, and_next, bounded_field, field_as, line_end, number_field, number_up_to, one_field, text_field, word_field, wrong_field};
-ghost use Rattle.lines.specs.Readers.{numbered, onward};
+ghost use Rattle.lines.specs.Readers.{OfLine, numbered, onward};
 ghost use Rattle.lines.specs.Text.{number_of};
 
 use crate::decimal::decimal;
@@ -64,6 +64,7 @@ impl<'a> Fields<'a> {
     fn one(&mut self) -> Result<Field<'a>, LineFault>
         ensures field { result_map_both numbered (λ f. f) result ≡ one_field self.old }
         ensures onward { self.new ≡ onward self.old }
+        ensures line { OfLine self.old × OfLine self.new }
     {
         let wrong = self.wrong();
         self.next().ok_or(wrong)
@@ -73,6 +74,7 @@ impl<'a> Fields<'a> {
     pub fn text(&mut self) -> Result<Field<'a>, LineFault>
         ensures field { result_map_both numbered (λ f. f) result ≡ text_field self.old }
         ensures onward { self.new ≡ onward self.old }
+        ensures line { OfLine self.old × OfLine self.new }
     {
         let field = self.one()?;
         if field.text.is_empty() {
@@ -86,6 +88,7 @@ impl<'a> Fields<'a> {
     pub fn word(&mut self, word: &[u8]) -> Result<(), LineFault>
         ensures value { result ≡ word_field word.now self.old }
         ensures onward { self.new ≡ onward self.old }
+        ensures line { OfLine self.old × OfLine self.new }
     {
         let field = self.one()?;
         if field.is_word(word) {
@@ -99,6 +102,7 @@ impl<'a> Fields<'a> {
     pub fn value<T: FromField>(&mut self) -> Result<T, LineFault>
         ensures value { result ≡ field_as T.meaning self.old }
         ensures onward { self.new ≡ onward self.old }
+        ensures line { OfLine self.old × OfLine self.new }
     {
         let field = self.one()?;
         T::from_field(field.text).ok_or(field.wrong())
@@ -108,6 +112,7 @@ impl<'a> Fields<'a> {
     pub fn last_value<T: FromField + Drop>(&mut self) -> Result<T, LineFault>
         ensures value { result ≡ and_next (field_as T.meaning) and_end self.old }
         ensures onward { self.new ≡ onward self.old }
+        ensures line { OfLine self.old × OfLine self.new }
     {
         let value = self.value()?;
         self.end()?;
@@ -118,6 +123,7 @@ impl<'a> Fields<'a> {
     pub fn number(&mut self) -> Result<u64, LineFault>
         ensures value { result ≡ number_field self.old }
         ensures onward { self.new ≡ onward self.old }
+        ensures line { OfLine self.old × OfLine self.new }
     {
         self.value()
     }
@@ -126,6 +132,7 @@ impl<'a> Fields<'a> {
     pub fn number_up_to(&mut self, largest: u64) -> Result<u64, LineFault>
         ensures value { result ≡ bounded_field largest self.old }
         ensures onward { self.new ≡ onward self.old }
+        ensures line { OfLine self.old × OfLine self.new }
         ensures small { IfOk result (λ n. n ≤ largest) }
     {
         let field = self.one()?;
@@ -137,7 +144,8 @@ impl<'a> Fields<'a> {
 
     // No field may be left.
     pub fn end(&self) -> Result<(), LineFault>
-        ensures { result ≡ line_end self.now }
+        ensures value { result ≡ line_end self.now }
+        ensures line { OfLine self.now }
     {
         if self.is_done() {
             Ok(())

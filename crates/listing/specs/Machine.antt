@@ -25,7 +25,7 @@ use Rattle.listing.specs.declared.state.State.TheVariants.{Waiting, Collecting, 
 use Rattle.listing.specs.declared.wish.Kind.{Kind}
 use Rattle.listing.specs.declared.wish.Kind.TheVariants.{Num, Code}
 use Rattle.listing.specs.declared.wish.Wish.{Wish}
-use Rattle.listing.specs.Drafts.{Drafted, blank, one_more}
+use Rattle.listing.specs.Drafts.{Drafted, blank, drafted, one_more}
 use Rattle.listing.specs.Wishes.{set_line}
 
 -- What is waited for: settings; the coefficients of the next level, behind those so far; keys.
@@ -127,8 +127,12 @@ outcome before line = cond (nat_le (length line) 80) (taken before line) (refuse
 -- The state and the reply of the program, in these words.
 abbrev pub phase : State → Phase
 phase Waiting = waiting
-phase (Collecting d) = collecting d
+phase (Collecting d) = collecting (drafted d)
 phase (Ready kind rule) = ready kind (settings_of rule)
+
+-- the phase of some state: a key is then listed by a rule, and of that what holds of every rule is known
+abbrev pub OfState : Phase → Type 0
+OfState p = (state : State) × (p ≡ phase state)
 
 abbrev pub said : Reply → Said
 said Nothing = nothing

@@ -1,6 +1,7 @@
 // A rule of which coefficients are still wanted, and the lines that give them.
 ghost use Rattle.std.specs.Prelude.{◌≡◌, true};
 ghost use Rattle.trees.specs.Settings.{coefficient_fits};
+ghost use Rattle.listing.specs.Drafts.{drafted};
 ghost use Rattle.listing.specs.Machine.{Barring, Lacking, ended, finished, pair_answer, pair_field, pair_kept, with_pair};
 
 use crate::fault::Fault;
@@ -10,7 +11,6 @@ use lines::fault::LineFault;
 use lines::field::Fields;
 use paths::path::PathRule;
 use paths::rule::Rule;
-use std::marker::Model;
 use trees::fault::RuleFault;
 use trees::settings::{Coefficient, Settings};
 
@@ -20,15 +20,6 @@ pub struct Draft {
     pub kind: Kind,
     pub settings: Settings,
     pub coefficients: Vec<Coefficient>,
-}
-
-impl Model for Draft {
-    ghost use Rattle.std.specs.Prelude.{vec_items};
-    ghost use Rattle.listing.specs.Drafts.{Drafted};
-
-    ghost Value = { Drafted };
-
-    ghost view = { λ d. record { kind = d.kind; settings = d.settings; pairs = vec_items d.coefficients } };
 }
 
 // The coefficients in the fields after `coef`.
@@ -43,7 +34,7 @@ fn read_pair(fields: &mut Fields) -> Result<Coefficient, LineFault>
 impl Draft {
     // A rule with all its coefficients, ready for keys.
     pub(crate) fn complete(&self) -> Result<(State, Reply), Fault>
-        ensures { ended result ≡ finished self.now }
+        ensures { ended result ≡ finished (drafted self.now) }
     {
         let rule = Rule::new(self.settings, &self.coefficients)?;
         let total = rule.total();
@@ -58,7 +49,7 @@ impl Draft {
 
     // The coefficients of one level more.
     fn collect(mut self, pair: Coefficient) -> Result<(State, Reply), Fault>
-        ensures told { Barring result (ended result ≡ with_pair self pair) }
+        ensures told { Barring result (ended result ≡ with_pair (drafted self) pair) }
         ensures short { Lacking result (coefficient_fits pair ≡ true) }
     {
         if !pair.fits() {
@@ -74,7 +65,7 @@ impl Draft {
     // The rest of a line that begins with `coef`.
     pub(crate) fn take_pair(self, fields: &mut Fields) -> Result<(State, Reply), Fault>
         ensures short { Lacking result (pair_kept (pair_field fields.old) ≡ true) }
-        ensures told { Barring result (ended result ≡ pair_answer self (pair_field fields.old)) }
+        ensures told { Barring result (ended result ≡ pair_answer (drafted self) (pair_field fields.old)) }
     {
         let pair = read_pair(fields)?;
         self.collect(pair)

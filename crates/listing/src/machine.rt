@@ -2,7 +2,8 @@
 ghost use Rattle.std.specs.Prelude.{◌≡◌, true, is_ok};
 ghost use Rattle.lines.specs.Readers.{all_of};
 ghost use Rattle.paths.specs.Rules.{settings_of};
-ghost use Rattle.listing.specs.Machine.{Barring, Lacking, Outcome, Steps, after_shortage, answered, collecting, ended, key_answer, key_of, phase, ready, set_answer, set_out, spelled_by, taken, waiting, wants_memory};
+ghost use Rattle.listing.specs.Drafts.{drafted};
+ghost use Rattle.listing.specs.Machine.{Barring, Lacking, OfState, Outcome, Steps, after_shortage, answered, collecting, ended, key_answer, key_of, phase, ready, set_answer, set_out, spelled_by, taken, waiting, wants_memory};
 ghost use Rattle.listing.specs.Wishes.{set_line};
 
 use crate::draft::Draft;
@@ -97,8 +98,8 @@ fn wait(heap: Global, line: &[u8]) -> Result<(State, Reply), Fault>
 
 // A line while coefficients are collected.
 fn take_coef(draft: Draft, line: &[u8]) -> (State, Result<Reply, Fault>)
-    ensures short { Lacking result.1 ((wants_memory (collecting draft) line.now ≡ true) × (phase result.0 ≡ waiting)) }
-    ensures told { Barring result.1 (◌≡◌ {A = Outcome} (answered result.1, phase result.0) (taken (collecting draft) line.now)) }
+    ensures short { Lacking result.1 ((wants_memory (collecting (drafted draft)) line.now ≡ true) × (phase result.0 ≡ waiting)) }
+    ensures told { Barring result.1 (◌≡◌ {A = Outcome} (answered result.1, phase result.0) (taken (collecting (drafted draft)) line.now)) }
 {
     let mut fields = Fields::new(line);
     match fields.word(b"coef") {
@@ -151,8 +152,11 @@ impl Listing {
 
     // Answers one line; 15 LINE, and all as it was, where it is too long.
     pub fn step(&mut self, heap: Global, line: &[u8]) -> Result<Reply, Fault>
-        ensures { Steps self.old line.now result self.new }
+        ensures steps { Steps self.old line.now result self.new }
+        ensures states { OfState self.old × OfState self.new }
     {
+        // (A look at the field, so that the second clause is known of a line that is too long as well.)
+        let _ = &self.state;
         check_length(line)?;
         let state = std::mem::replace(&mut self.state, State::Waiting);
         let (after, answer) = state.take(heap, line);

@@ -1,6 +1,8 @@
 -- Parts of one width, one behind the other.
-use Rattle.std.proofs.Common.{◌≡◌, ℕ, zero, suc, ◌+◌, ◌*◌, ◌<◌, List, ◌++◌, length, take, drop, sym, ap, ◌∙◌, suc-mul, zero-mul, arith, length-append}
+use Rattle.std.proofs.Common.{◌≡◌, ℕ, zero, suc, ◌+◌, ◌-◌, ◌*◌, ◌<◌, ◌≤◌, List, [], ◌++◌, length, get_or, take, drop, sym, refl, ap, ◌∙◌, suc-mul, zero-mul, arith, length-append}
 use Rattle.std.specs.List.{range_with_len, flat_map}
+use Rattle.std.specs.Simd.{first_chunks}
+use Rattle.std.proofs.lemmas.Nat.{mul-le}
 use Rattle.std.proofs.lemmas.List.{append_assoc, append-nil, drop_at, drop-drop, drop-take, take-append-drop, take_at, take-take}
 
 -- Two parts that are taken one behind the other.
@@ -73,3 +75,27 @@ module _ (wide : ℕ) (f : ℕ → List ℕ) where
       ∙ take_plus wide (n * wide) m
       ∙ ap (λ xs. xs ++ take (n * wide) (drop wide m)) first
       ∙ ap (λ xs. f a ++ xs) rest
+
+-- Parts of one width, cut from bytes one behind the other.
+pub length_chunks : (wide n : ℕ) (xs : List ℕ) → length (first_chunks wide n xs) ≡ n
+length_chunks wide zero xs = refl
+length_chunks wide (suc n) xs = omega (arith, length_chunks wide n (drop wide xs))
+
+chunk_at : (wide n : ℕ) (xs : List ℕ) (j : ℕ) → j < n → get_or (first_chunks wide n xs) j [] ≡ take wide (drop (j * wide) xs)
+chunk_at wide zero xs j h = absurd (omega arith)
+chunk_at wide (suc n) xs zero h = ap (λ k. take wide (drop k xs)) (sym (zero-mul wide))
+chunk_at wide (suc n) xs (suc j) h =
+    let next : wide + j * wide ≡ suc j * wide = sym (suc-mul j wide ∙ omega arith) in
+    chunk_at wide n (drop wide xs) j (omega arith) ∙ ap (take wide) (drop-drop (j * wide) wide xs) ∙ ap (λ k. take wide (drop k xs)) next
+
+-- One of n that are cut from a place of the memory on.
+pub chunk_in : (wide at n : ℕ) (m xs : List ℕ) → xs ≡ take (n * wide) (drop at m) → (j : ℕ) → j < n → get_or (first_chunks wide n xs) j [] ≡ take wide (drop (at + j * wide) m)
+chunk_in wide at n m xs e j l =
+    let more : (suc j) * wide ≤ n * wide = mul-le (suc j) wide n wide (omega arith) (omega arith) in
+    let inside : j * wide + wide ≤ n * wide = omega (arith, more, suc-mul j wide) in
+    let rest : n * wide ≡ j * wide + (n * wide - j * wide) = omega (arith, inside) in
+    chunk_at wide n xs j l
+    ∙ ap (λ ys. take wide (drop (j * wide) ys)) (e ∙ ap (λ k. take k (drop at m)) rest)
+    ∙ ap (take wide) (drop-take (j * wide) (n * wide - j * wide) (drop at m))
+    ∙ take-take wide (n * wide - j * wide) (drop (j * wide) (drop at m)) (omega (arith, inside))
+    ∙ ap (take wide) (drop-drop (j * wide) at m)

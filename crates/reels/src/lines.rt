@@ -1,5 +1,7 @@
 // The lines of a reel.
-ghost use Rattle.std.specs.Prelude.{◌≡◌, ◌+◌, ◌*◌, ◌<◌, Ok, Err, IfOk, IfSome, MatchResult};
+ghost use Rattle.std.specs.Prelude.{◌≡◌, ◌==◌, ◌+◌, ◌*◌, ◌<◌, take, drop, position, Ok, Err, IfOk, IfSome, MatchResult};
+ghost use Rattle.std.specs.Simd.{first_chunks};
+ghost use Rattle.octets.specs.Numbers.{number_at};
 ghost use Rattle.stores.specs.Cells.{write_answer};
 ghost use Rattle.reels.specs.Reels.{FreeLine, found, reel_cell, reel_cells, reel_takes, reel_used};
 
@@ -8,12 +10,22 @@ use octets::memory::InMemory;
 use stores::fault::StoreFault;
 use stores::store::Store;
 
+// The bytes of a line.
+const LINE: usize = 28;
+
 // Where a line begins: behind the count and the lines before it.
-// (Lines by their places, and no arrays: a write writes one line, and of what arrays lend for writing only the length is known.)
+// (A line is written by its place, and not as an array: of what arrays lend for writing only the length is known.)
 pub(crate) fn place(line: u32) -> usize
     ensures { result ≡ 4 + 28 * line }
 {
     4 + 28 * line as usize
+}
+
+// The first of these lines with the cell's number. (Of an array the compiler knows how long it is: a number in it is read at once.)
+fn first_with(lines: &[[u8; LINE]], cell: u32) -> Option<usize>
+    ensures { result ≡ position (λ line. number_at line 0 4 == cell) lines.now }
+{
+    lines.iter().position(|line| u32::read_at(line, 0) == cell)
 }
 
 impl<'a> Reel<'a> {
@@ -24,13 +36,21 @@ impl<'a> Reel<'a> {
         u32::read_at(self.memory, 0).min(self.lines)
     }
 
+    // The used lines.
+    fn used_lines(&self) -> &[[u8; LINE]]
+        ensures { result.now ≡ first_chunks 28 (reel_used self.now.lines self.now.memory.now) (take (reel_used self.now.lines self.now.memory.now * 28) (drop 4 self.now.memory.now)) }
+    {
+        let lines = &self.memory[place(0)..place(self.used())];
+        lines.as_chunks::<LINE>().0
+    }
+
     // The first used line with the cell's number, looked for from the first line on: an index would take memory
     // of its own, and a reel has only what the caller lends.
-    pub(crate) fn find(&self, cell: u32) -> Option<u32>
+    pub(crate) fn find(&self, cell: u32) -> Option<usize>
         ensures value { result ≡ found self.now.memory.now cell (reel_used self.now.lines self.now.memory.now) }
         ensures below { IfSome result (λ i. i < reel_used self.now.lines self.now.memory.now) }
     {
-        (0..self.used()).find(|line| u32::read_at(self.memory, place(*line)) == cell)
+        first_with(self.used_lines(), cell)
     }
 
     // The line that a write goes to, or why it is refused.

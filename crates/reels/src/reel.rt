@@ -46,7 +46,7 @@ impl<'a> Store for Reel<'a> {
             buffer.fill(0);
             return Ok(false);
         };
-        let first = place(line);
+        let first = place(line as u32);
         buffer.copy_from_slice(&self.memory[first + 4..first + 28]);
         Ok(true)
     }

@@ -4,7 +4,7 @@ use Rattle.octets.specs.Numbers.{big_endian, number_at}
 use Rattle.octets.specs.Overwriting.{overwritten}
 use Rattle.octets.proofs.Overwrites.{written_where_it_fits}
 use Rattle.ledgers.specs.Ledgers.{ledger_groups, ledger_pairs, ledger_size, line_of, pairs_of}
-use Rattle.ledgers.proofs.Live.{live_in, put_live}
+use Rattle.ledgers.proofs.Live.{live_passed, put_live}
 use Rattle.ledgers.proofs.Putting.{groups_new, put_after, put_drawn}
 use Rattle.ledgers.proofs.ledger.LedgerKeep.put.Goals as goal
 
@@ -17,7 +17,7 @@ returns c =
     let g = c.args.group in
     let cell = c.args.cell in
     let locator = c.args.locator in
-    let alive = live_in groups lines m g self.fits (sym c.in_ok-check.ensures) in
+    let alive = live_passed groups lines m g (sym c.in_ok-check.ensures) in
     let is = c.count-count.ensures in
     let free : number_at m groups 4 < lines = omega (arith, is) in
     let part = line_of g cell locator in

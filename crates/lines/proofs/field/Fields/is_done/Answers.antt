@@ -4,5 +4,5 @@ use Rattle.std.proofs.lemmas.Grind.{common_steps}
 use Rattle.lines.proofs.Splits.{none_left_is}
 use Rattle.lines.proofs.field.Fields.is_done.Goals as goal
 
-pub returns : goal.returns
-returns c = rw (← c.self.view_is) (grind (arith, common_steps, none_left_is c.self.inside.rest))
+pub returns-clause-value : goal.returns-clause-value
+returns-clause-value c = rw (← c.self.view_is) (grind (arith, common_steps, none_left_is c.self.inside.rest))

@@ -1,16 +1,25 @@
--- The first line with the number, or none.
-use Rattle.std.proofs.Common.{sym, ap, ◌∙◌, arith, rules, tests}
-use Rattle.std.proofs.lemmas.Iterator.{YieldsList-from_range}
-use Rattle.std.proofs.lemmas.Iterator.Adapters.{option_map_id}
-use Rattle.std.proofs.lemmas.Iterator.Search.{find_from_yields_List}
-use Rattle.reels.specs.Reels.{found}
-use Rattle.reels.proofs.Finding.{has, find_line}
+-- The first line with the number, among the lines as parts of the memory.
+use Rattle.std.proofs.Common.{◌≡◌, ◌==◌, ℕ, ◌*◌, ◌<◌, List, take, drop, position, IfSome, Some, None, Option, sym, refl, ap, ◌∙◌}
+use Rattle.std.specs.Simd.{first_chunks}
+use Rattle.octets.specs.Numbers.{number_at}
+use Rattle.reels.specs.ReelLaws.{found_below}
+use Rattle.reels.specs.Reels.{found, reel_used}
+use Rattle.reels.specs.declared.reel.Reel.{Reel}
+use Rattle.reels.proofs.Finding.{line_found}
 use Rattle.reels.proofs.reel.Reel.find.Goals as goal
 
+-- What is found among the used lines of a reel.
+searched : (r : Reel) (cell : ℕ) (lines : List (List ℕ)) (o : Option ℕ) → lines ≡ first_chunks 28 (reel_used r.lines r.memory.now) (take (reel_used r.lines r.memory.now * 28) (drop 4 r.memory.now)) → o ≡ position (λ line. number_at line 0 4 == cell) lines → o ≡ found r.memory.now cell (reel_used r.lines r.memory.now)
+searched r cell lines o cut first =
+    let n = reel_used r.lines r.memory.now in
+    line_found r.memory.now cell n (take (n * 28) (drop 4 r.memory.now)) refl o (first ∙ ap (position (λ line. number_at line 0 4 == cell)) cut)
+
 pub returns-clause-value : goal.returns-clause-value
-returns-clause-value c =
-    let memory = c.args.self.now.memory.now in
-    sym (option_map_id c.find.result)
-    ∙ find_from_yields_List (has memory c.args.cell) _ _ c.find.result c.find.ensures.ran (YieldsList-from_range 0 c.used.result c.used.result (cc) (omega arith)) (λ x b q k. search (rules, tests))
-    ∙ find_line memory c.args.cell c.used.result
-    ∙ ap (found memory c.args.cell) c.used.ensures
+returns-clause-value c = searched c.args.self.now c.args.cell c.used_lines.result.now c.first_with.result c.used_lines.ensures c.first_with.ensures
+
+below : (m : List ℕ) (cell n : ℕ) (o : Option ℕ) → o ≡ found m cell n → IfSome o (λ i. i < n)
+below m cell n None e = tt
+below m cell n (Some i) e = found_below m cell n i (sym e)
+
+pub returns-clause-below : goal.returns-clause-below
+returns-clause-below c = below c.args.self.now.memory.now c.args.cell (reel_used c.args.self.now.lines c.args.self.now.memory.now) c.first_with.result (returns-clause-value c)

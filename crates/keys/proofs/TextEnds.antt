@@ -1,4 +1,4 @@
--- The first byte 0 ends the text; where there is none, the text fills all 12 bytes.
+-- The first byte 0 ends the text of a code; where there is none, the text fills all 12 bytes.
 use Rattle.std.proofs.Common.{◌≡◌, ℕ, zero, suc, ◌+◌, ◌-◌, ◌<◌, true, ◌&&◌, ◌==◌, eqb, ◌∷◌, length, get_or, take, drop, replicate, position, Option, Some, None, sym, ap, ◌∙◌, arith}
 use Rattle.std.proofs.lemmas.Bool.{and_parts, both_ways, eqb-false, eqb-true}
 use Rattle.std.proofs.lemmas.List.{drop_more, drop_all, length-drop}
@@ -9,7 +9,6 @@ use Rattle.keys.specs.Codes.{code_text, of_code, padded, text_then_padding}
 use Rattle.keys.specs.CodeLaws.{code_laws}
 use Rattle.keys.specs.declared.code.DrawingCode.{DrawingCode}
 use Rattle.keys.proofs.Codes.{text_until, text_ends, front_text, front_padded}
-use Rattle.keys.proofs.code.DrawingCode.text_len.Goals as goal
 
 twelve : (code : DrawingCode) → length code.bytes ≡ 12
 twelve code = code_laws.twelve code.bytes code.good
@@ -55,7 +54,8 @@ ends : (code : DrawingCode) (o : Option ℕ) → o ≡ position (λ b. b == 0) c
 ends code None h = all_text code h
 ends code (Some i) h = at_zero code i h
 
-pub returns : goal.returns
-returns c =
-    let there = ends c.args.self.now c.first_zero.result c.first_zero.ensures in
-    record { text = rw c.unwrap_or.ensures there.0; rest = rw c.unwrap_or.ensures there.1 }
+pub text_ends_there : (code : DrawingCode) (o : Option ℕ) → o ≡ position (λ b. b == 0) code.bytes → code_text (take (unwrap_or o 12) code.bytes) ≡ true
+text_ends_there code o h = (ends code o h).0
+
+pub rest_is_padding : (code : DrawingCode) (o : Option ℕ) → o ≡ position (λ b. b == 0) code.bytes → code.bytes ≡ padded (take (unwrap_or o 12) code.bytes)
+rest_is_padding code o h = (ends code o h).1
