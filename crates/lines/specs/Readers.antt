@@ -59,6 +59,6 @@ read_on n (t ∷ ts) = next_number n
 abbrev pub onward : Unread → Unread
 onward u = record { read = read_on u.read u.left; left = past_first u.left }
 
--- one step: the next field, and what is left then
+-- one step: the next field, and what is left then; what was left, and what is, is of some line
 abbrev pub GivesField : Unread → Option Field → Unread → Type 0
 GivesField u f v = (option_map numbered f ≡ next_field u) × (v ≡ onward u) × OfLine u × OfLine v

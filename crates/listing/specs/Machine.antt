@@ -130,7 +130,7 @@ phase Waiting = waiting
 phase (Collecting d) = collecting (drafted d)
 phase (Ready kind rule) = ready kind (settings_of rule)
 
--- the phase of some state: a key is then listed by a rule, and of that what holds of every rule is known
+-- the phase of some state, so that settings by which keys are listed are those of a rule
 abbrev pub OfState : Phase → Type 0
 OfState p = (state : State) × (p ≡ phase state)
 

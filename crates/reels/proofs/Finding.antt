@@ -1,13 +1,10 @@
--- The number at a place, and the first line with a number, however it is looked for.
-use Rattle.std.proofs.Common.{◌≡◌, ℕ, zero, suc, ◌+◌, ◌*◌, ◌<◌, ◌≤◌, eqb, List, [], ◌∷◌, ◌++◌, length, get_or, take, drop, Bool, false, cond, position, Some, None, Option, sym, refl, ap, ◌∙◌, inl, inr, arith, add-one}
-use Rattle.std.specs.List.{find, range_with_len}
+-- The number at a place, and the first line with a number.
+use Rattle.std.proofs.Common.{◌≡◌, ℕ, zero, suc, ◌+◌, ◌*◌, ◌<◌, ◌≤◌, eqb, List, [], ◌∷◌, length, get_or, take, drop, Bool, false, cond, position, Some, None, Option, sym, refl, ap, ◌∙◌, inl, inr, arith}
 use Rattle.std.specs.Option.{option_or}
 use Rattle.std.specs.Simd.{first_chunks}
 use Rattle.std.proofs.lemmas.Bool.{cases_eq, cond-false, cond-true, eq-eqb, eqb-false, eqb-true, ne_eqb}
-use Rattle.std.proofs.lemmas.List.{drop_more, map-id}
-use Rattle.std.proofs.lemmas.List.Folds.{find-append}
+use Rattle.std.proofs.lemmas.List.{drop_more}
 use Rattle.std.proofs.lemmas.List.Quantifiers.{position-Some}
-use Rattle.std.proofs.lemmas.List.FromFn.{map-range_with_len_more}
 use Rattle.octets.specs.Numbers.{number_at}
 use Rattle.octets.proofs.Lists.{fails_everywhere}
 use Rattle.octets.proofs.Parts.{chunk_in, length_chunks}
@@ -26,14 +23,7 @@ four m at h =
     let d = drop-one m (at + 3) (at + 4) (omega arith) (omega arith) in
     ap (take 4) (a ∙ ap (λ xs. get_or m at 0 ∷ xs) (b ∙ ap (λ xs. get_or m (at + 1) 0 ∷ xs) (c ∙ ap (λ xs. get_or m (at + 2) 0 ∷ xs) d)))
 
--- One number more.
-one_more : (n : ℕ) → range_with_len 0 (suc n) ≡ range_with_len 0 n ++ n ∷ []
-one_more n = ap (range_with_len 0) (sym (add-one n)) ∙ sym (map-id _) ∙ map-range_with_len_more (λ (i : ℕ). i) 0 n n (omega arith) ∙ ap (λ xs. xs ++ n ∷ []) (map-id _)
-
 module _ (memory : List ℕ) (d : ℕ) where
-  abbrev pub has : ℕ → Bool
-  has i = eqb (line_number memory i) d
-
   -- A line with another number is passed over.
   pub found_next : (i j : ℕ) → j ≡ suc i → found memory d i ≡ None → (line_number memory i ≡ d → ⊥) → found memory d j ≡ None
   found_next i j e none ne =
@@ -52,11 +42,6 @@ module _ (memory : List ℕ) (d : ℕ) where
             ∙ cond-true _ _ _ (eq-eqb (line_number memory i) d here)
         | inr ne ↦ ap (λ o. option_or o (cond (eqb (line_number memory n) d) (Some n) None)) (found_first i n (omega (arith, ne)) none here)
       ]
-
-  -- The line that a search from the first one on finds.
-  pub find_line : (n : ℕ) → find has (range_with_len 0 n) ≡ found memory d n
-  find_line zero = refl
-  find_line (suc n) = ap (find has) (one_more n) ∙ find-append has (range_with_len 0 n) (n ∷ []) ∙ ap (λ o. option_or o (find has (n ∷ []))) (find_line n)
 
 -- The n lines as parts of the memory behind the count.
 module _ (memory : List ℕ) (d n : ℕ) (xs : List ℕ) (cut : xs ≡ take (n * 28) (drop 4 memory)) where

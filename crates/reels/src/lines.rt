@@ -18,7 +18,7 @@ const LINE: usize = 28;
 pub(crate) fn place(line: u32) -> usize
     ensures { result ≡ 4 + 28 * line }
 {
-    4 + 28 * line as usize
+    4 + LINE * line as usize
 }
 
 // The first of these lines with the cell's number. (Of an array the compiler knows how long it is: a number in it is read at once.)
